@@ -1,0 +1,5 @@
+pub mod Numbers
+pub mod TwosComplement
+pub mod Written
+pub mod Table
+pub mod Tags

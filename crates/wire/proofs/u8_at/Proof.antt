@@ -1,0 +1,16 @@
+-- `wire::u8_at`: what the two calls ensure, put together.
+use borrow.Author.Needs.{needs}
+use Rattle.wire.proofs.u8_at.Statement.{statement}
+use Rattle.wire.proofs.u8_at.Tie as tie
+
+from-requires : tie.Need-from-requires
+from-requires c κs = search needs
+
+u8-of-requires : tie.Need-u8-of-requires
+u8-of-requires c κs = search needs
+
+returns : tie.Need-returns
+returns c = cc
+
+pub u8-at-spec : {M : Type 1} → statement M
+u8-at-spec = tie.close (tie.spec from-requires u8-of-requires returns)

@@ -1,0 +1,228 @@
+// Little-endian numbers in lent bytes: read from a slice, written into one, and whole slices copied, cleared and compared.
+//
+// Nothing here has a `requires`. Reading past the end gives zeros, and what would be written past the end is dropped. The contracts cite
+// `specs/Le.antt`; `specs/Table.antt` and the laws of `proofs/` are for the crates that read and write tables of records.
+ghost use mathlib.Core.Path.{_≡_};
+ghost use Prim.Native.Nat.{_<_};
+ghost use lib.ListN.{length, take, drop, replicate};
+ghost use lib.Seq.{sets};
+ghost use mir.Syntax.{w32, w64};
+ghost use mir.Val.{toZ, ofZ};
+ghost use Rattle.wire.specs.Le.{le, bytesOf, sameBytes};
+
+// What is left of `s` from `at` on: nothing where `at` is past the end.
+pub fn from(s: &[u8], at: usize) -> &[u8]
+    ensures { λ r. ⌜ now r ≡ drop at (now (s .entry)) ⌝ }
+{
+    if at <= s.len() { &s[at..] } else { &s[..0] }
+}
+
+// The `len` bytes from `at` on, or as many of them as there are.
+pub fn part(s: &[u8], at: usize, len: usize) -> &[u8]
+    ensures { λ r. ⌜ now r ≡ take len (drop at (now (s .entry))) ⌝ }
+{
+    let t = from(s, at);
+    if len <= t.len() { &t[..len] } else { t }
+}
+
+fn wide16(x: u8) -> u16
+    ensures { λ r. ⌜ (r ≡ x) × (r < 256) ⌝ }
+{
+    x as u16
+}
+
+fn wide32(x: u8) -> u32
+    ensures { λ r. ⌜ (r ≡ x) × (r < 256) ⌝ }
+{
+    x as u32
+}
+
+fn wide64(x: u8) -> u64
+    ensures { λ r. ⌜ (r ≡ x) × (r < 256) ⌝ }
+{
+    x as u64
+}
+
+// The first byte.
+pub fn u8_of(s: &[u8]) -> u8
+    ensures { λ r. ⌜ r ≡ le 1 (now (s .entry)) ⌝ }
+{
+    if 0 < s.len() { s[0] } else { 0 }
+}
+
+// The number in the first two bytes. One test serves them all; only a slice that is too short is read by halves.
+pub fn u16_of(s: &[u8]) -> u16
+    ensures { λ r. ⌜ r ≡ le 2 (now (s .entry)) ⌝ }
+{
+    if 2 <= s.len() {
+        return wide16(s[0]) + 0x100 * wide16(s[1]);
+    }
+    wide16(u8_of(s)) + 0x100 * wide16(u8_of(from(s, 1)))
+}
+
+// The number in the first four bytes.
+pub fn u32_of(s: &[u8]) -> u32
+    ensures { λ r. ⌜ r ≡ le 4 (now (s .entry)) ⌝ }
+{
+    if 4 <= s.len() {
+        return wide32(s[0]) + 0x100 * wide32(s[1]) + 0x1_0000 * wide32(s[2]) + 0x100_0000 * wide32(s[3]);
+    }
+    let low = u16_of(s) as u32;
+    let high = u16_of(from(s, 2)) as u32;
+    low + 0x1_0000 * high
+}
+
+// The number in the first eight bytes.
+pub fn u64_of(s: &[u8]) -> u64
+    ensures { λ r. ⌜ r ≡ le 8 (now (s .entry)) ⌝ }
+{
+    if 8 <= s.len() {
+        return wide64(s[0]) + 0x100 * wide64(s[1]) + 0x1_0000 * wide64(s[2]) + 0x100_0000 * wide64(s[3])
+            + 0x1_0000_0000 * wide64(s[4]) + 0x100_0000_0000 * wide64(s[5])
+            + 0x1_0000_0000_0000 * wide64(s[6]) + 0x100_0000_0000_0000 * wide64(s[7]);
+    }
+    let low = u32_of(s) as u64;
+    let high = u32_of(from(s, 4)) as u64;
+    low + 0x1_0000_0000 * high
+}
+
+// A number at a place: the byte, and two, four and eight of them.
+pub fn u8_at(s: &[u8], at: usize) -> u8
+    ensures { λ r. ⌜ r ≡ le 1 (drop at (now (s .entry))) ⌝ }
+{
+    u8_of(from(s, at))
+}
+
+pub fn u16_at(s: &[u8], at: usize) -> u16
+    ensures { λ r. ⌜ r ≡ le 2 (drop at (now (s .entry))) ⌝ }
+{
+    u16_of(from(s, at))
+}
+
+pub fn u32_at(s: &[u8], at: usize) -> u32
+    ensures { λ r. ⌜ r ≡ le 4 (drop at (now (s .entry))) ⌝ }
+{
+    u32_of(from(s, at))
+}
+
+pub fn u64_at(s: &[u8], at: usize) -> u64
+    ensures { λ r. ⌜ r ≡ le 8 (drop at (now (s .entry))) ⌝ }
+{
+    u64_of(from(s, at))
+}
+
+// Bits read as a signed number, and a signed number's bits (two's complement).
+pub fn signed(bits: u64) -> i64
+    ensures { λ r. ⌜ r ≡ toZ w64 bits ⌝ }
+{
+    if bits < 0x8000_0000_0000_0000 {
+        bits as i64
+    } else {
+        (bits - 0x8000_0000_0000_0000) as i64 + (-9223372036854775808)
+    }
+}
+
+pub fn unsigned(x: i64) -> u64
+    ensures { λ r. ⌜ r ≡ ofZ w64 x ⌝ }
+{
+    if 0 <= x {
+        x as u64
+    } else {
+        0xffff_ffff_ffff_ffff - ((-1 - x) as u64)
+    }
+}
+
+pub fn signed32(bits: u32) -> i32
+    ensures { λ r. ⌜ r ≡ toZ w32 bits ⌝ }
+{
+    if bits < 0x8000_0000 {
+        bits as i32
+    } else {
+        (bits - 0x8000_0000) as i32 + (-2147483648)
+    }
+}
+
+pub fn unsigned32(x: i32) -> u32
+    ensures { λ r. ⌜ r ≡ ofZ w32 x ⌝ }
+{
+    if 0 <= x {
+        x as u32
+    } else {
+        0xffff_ffff - ((-1 - x) as u32)
+    }
+}
+
+// A signed number in the first eight bytes, and at a place.
+pub fn i64_of(s: &[u8]) -> i64
+    ensures { λ r. ⌜ r ≡ toZ w64 (le 8 (now (s .entry))) ⌝ }
+{
+    signed(u64_of(s))
+}
+
+pub fn i64_at(s: &[u8], at: usize) -> i64
+    ensures { λ r. ⌜ r ≡ toZ w64 (le 8 (drop at (now (s .entry)))) ⌝ }
+{
+    signed(u64_at(s, at))
+}
+
+// Writes the `n` low bytes of `x` from `at` on, least first; bytes above the eighth are zero.
+pub fn put(d: &mut [u8], at: usize, n: usize, x: u64)
+    ensures { λ _. ⌜ now (d .exit) ≡ sets (now (d .entry)) at (bytesOf n x) ⌝ }
+{
+    let mut i = at;
+    let mut left = n;
+    let mut rest = x;
+    while 0 < left {
+        if d.len() <= i {
+            return;
+        }
+        d[i] = (rest % 256) as u8;
+        i += 1;
+        rest = rest / 256;
+        left -= 1;
+    }
+}
+
+// Writes the bytes of `s` from `at` on.
+pub fn copy(d: &mut [u8], at: usize, s: &[u8])
+    ensures { λ _. ⌜ now (d .exit) ≡ sets (now (d .entry)) at (now (s .entry)) ⌝ }
+{
+    let mut i = at;
+    let mut k = 0;
+    while k < s.len() {
+        if d.len() <= i {
+            return;
+        }
+        d[i] = s[k];
+        i += 1;
+        k += 1;
+    }
+}
+
+// Makes every byte of `d` zero.
+pub fn clear(d: &mut [u8])
+    ensures { λ _. ⌜ now (d .exit) ≡ replicate (length (now (d .entry))) 0 ⌝ }
+{
+    let mut i = 0;
+    while i < d.len() {
+        d[i] = 0;
+        i += 1;
+    }
+}
+
+// Whether two slices hold the same bytes.
+pub fn same(a: &[u8], b: &[u8]) -> bool
+    ensures { λ r. ⌜ r ≡ sameBytes (now (a .entry)) (now (b .entry)) ⌝ }
+{
+    if a.len() != b.len() {
+        return false;
+    }
+    let mut i = 0;
+    while i < a.len() {
+        if a[i] != b[i] {
+            return false;
+        }
+        i += 1;
+    }
+    true
+}

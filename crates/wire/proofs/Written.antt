@@ -4,8 +4,8 @@ use Prim.Native.Nat.{ℕ, zero, suc, _+_, _*_, _^_, _-_, _%_, _/_, _≤_, _<_}
 use mathlib.Core.Bool.{Bool, true, false, _&&_}
 use mathlib.Core.Path.{_≡_, refl, sym, ap, _∙_}
 use mathlib.Core.List.{List, [], _∷_, _++_, append-nil}
-use native.Mathlib.Nat.{not-suc-le-zero}
-use lib.Dec.{eqb}
+use native.Mathlib.Nat.{not-suc-le-zero, le-of-suc-le-suc, pow-succ', mul-comm, div-lt-iff-lt-mul}
+use lib.Dec.{eqb, lit<}
 use borrow.Author.Tests.{eq-eqb, ne-eqb}
 use native.Mathlib.Omega.{arith}
 use native.Mathlib.Numerals.{add-one}
@@ -43,8 +43,13 @@ copy-step d s i k h = rw (drop-cons s k 0 h, add-one, add-one)
 -- one turn of the loop that clears
 pub clear-step : (d : List ℕ) (i : ℕ) → i < length d → set (replicate i 0 ++ drop i d) i 0 ≡ replicate (i + 1) 0 ++ drop (i + 1) d
 clear-step d i h =
-    rw (drop-cons d i 0 h, set-at (replicate i 0) (getD d i 0) (drop (suc i) d) 0 i (length-replicate i 0), ← append-snoc (replicate i 0) 0 (drop (suc i) d),
-    replicate-append-replicate {A = ℕ} i 1 0, add-one)
+    rw (
+      drop-cons d i 0 h,
+      set-at (replicate i 0) (getD d i 0) (drop (suc i) d) 0 i (length-replicate i 0),
+      ← append-snoc (replicate i 0) 0 (drop (suc i) d),
+      replicate-append-replicate {A = ℕ} i 1 0,
+      add-one,
+    )
 
 pub all-cleared : (d : List ℕ) (i : ℕ) → i ≡ length d → replicate i 0 ++ drop i d ≡ replicate (length d) 0
 all-cleared d i e = rw (e, drop-length d, append-nil)
@@ -69,3 +74,38 @@ same-step a b i p q h = rw (drop-cons a i 0 p, drop-cons b i 0 q, eq-eqb (getD a
 pub same-end : (a b : List ℕ) (i : ℕ) → length a ≤ i → length b ≤ i → sameBytes (drop i a) (drop i b) ≡ true
 unfolding sameBytes
 same-end a b i p q = rw (drop-of-length-le a p, drop-of-length-le b q)
+
+-- ---- what is written is read back
+pub length-bytesOf : (n x : ℕ) → length (bytesOf n x) ≡ n
+unfolding bytesOf
+length-bytesOf zero x = refl
+length-bytesOf (suc n) x = ap suc (length-bytesOf n (x / 256))
+
+pub le-bytesOf : (n x : ℕ) (t : List ℕ) → x < 256 ^ n → le n (bytesOf n x ++ t) ≡ x
+unfolding le bytesOf
+le-bytesOf zero x t h = omega arith
+le-bytesOf (suc n) x t h =
+    let k : x < 256 ^ n * 256 = rw (pow-succ', mul-comm) at h in
+    let b : x / 256 < 256 ^ n = div-lt-iff-lt-mul {k = 256} (lit< tt) .1 k in
+    rw (le-bytesOf n (x / 256) t b) (omega arith)
+
+-- each element is a byte
+pub data Bytes : List ℕ → Type 0 where
+  none : Bytes []
+  more : {b : ℕ} {s : List ℕ} → b < 256 → Bytes s → Bytes (b ∷ s)
+
+pub bytesOf-le : (n : ℕ) (s : List ℕ) → Bytes s → n ≤ length s → bytesOf n (le n s) ≡ take n s
+unfolding bytesOf le
+bytesOf-le zero s b h = refl
+bytesOf-le (suc n) [] none h = absurd (not-suc-le-zero h)
+bytesOf-le (suc n) (x ∷ s) (more p b) h =
+    let low : (x + 256 * le n s) % 256 ≡ x = omega arith in
+    let high : (x + 256 * le n s) / 256 ≡ le n s = omega arith in
+    rw (low, high, bytesOf-le n s b (le-of-suc-le-suc h))
+
+-- a number of n bytes is below 256 ^ n
+pub le-lt : (n : ℕ) (s : List ℕ) → Bytes s → le n s < 256 ^ n
+unfolding le
+le-lt zero s b = omega arith
+le-lt (suc n) [] none = rw pow-succ' (omega (arith, le-lt n [] none))
+le-lt (suc n) (x ∷ s) (more p b) = rw pow-succ' (omega (arith, le-lt n s b))

@@ -2,8 +2,10 @@
 //
 // Nothing here has a `requires`. Reading past the end gives zeros, and what would be written past the end is dropped. The contracts cite
 // `specs/Le.antt`; `specs/Table.antt` and the laws of `proofs/` are for the crates that read and write tables of records.
+pub mod layout;
+
 ghost use mathlib.Core.Path.{_≡_};
-ghost use Prim.Native.Nat.{_<_};
+ghost use Prim.Native.Nat.{_+_, _*_};
 ghost use lib.ListN.{length, take, drop, replicate};
 ghost use lib.Seq.{sets};
 ghost use mir.Syntax.{w32, w64};
@@ -25,22 +27,17 @@ pub fn part(s: &[u8], at: usize, len: usize) -> &[u8]
     if len <= t.len() { &t[..len] } else { t }
 }
 
-fn wide16(x: u8) -> u16
-    ensures { λ r. ⌜ (r ≡ x) × (r < 256) ⌝ }
+// The number that two and four bytes make, least byte first.
+fn two(x0: u8, x1: u8) -> u16
+    ensures { λ r. ⌜ r ≡ x0 + 0x100 * x1 ⌝ }
 {
-    x as u16
+    (x0 as u16) + 0x100 * (x1 as u16)
 }
 
-fn wide32(x: u8) -> u32
-    ensures { λ r. ⌜ (r ≡ x) × (r < 256) ⌝ }
+fn four(x0: u8, x1: u8, x2: u8, x3: u8) -> u32
+    ensures { λ r. ⌜ r ≡ x0 + 0x100 * x1 + 0x1_0000 * x2 + 0x100_0000 * x3 ⌝ }
 {
-    x as u32
-}
-
-fn wide64(x: u8) -> u64
-    ensures { λ r. ⌜ (r ≡ x) × (r < 256) ⌝ }
-{
-    x as u64
+    (x0 as u32) + 0x100 * (x1 as u32) + 0x1_0000 * (x2 as u32) + 0x100_0000 * (x3 as u32)
 }
 
 // The first byte.
@@ -55,9 +52,9 @@ pub fn u16_of(s: &[u8]) -> u16
     ensures { λ r. ⌜ r ≡ le 2 (now (s .entry)) ⌝ }
 {
     if 2 <= s.len() {
-        return wide16(s[0]) + 0x100 * wide16(s[1]);
+        return two(s[0], s[1]);
     }
-    wide16(u8_of(s)) + 0x100 * wide16(u8_of(from(s, 1)))
+    two(u8_of(s), u8_of(from(s, 1)))
 }
 
 // The number in the first four bytes.
@@ -65,7 +62,7 @@ pub fn u32_of(s: &[u8]) -> u32
     ensures { λ r. ⌜ r ≡ le 4 (now (s .entry)) ⌝ }
 {
     if 4 <= s.len() {
-        return wide32(s[0]) + 0x100 * wide32(s[1]) + 0x1_0000 * wide32(s[2]) + 0x100_0000 * wide32(s[3]);
+        return four(s[0], s[1], s[2], s[3]);
     }
     let low = u16_of(s) as u32;
     let high = u16_of(from(s, 2)) as u32;
@@ -77,9 +74,9 @@ pub fn u64_of(s: &[u8]) -> u64
     ensures { λ r. ⌜ r ≡ le 8 (now (s .entry)) ⌝ }
 {
     if 8 <= s.len() {
-        return wide64(s[0]) + 0x100 * wide64(s[1]) + 0x1_0000 * wide64(s[2]) + 0x100_0000 * wide64(s[3])
-            + 0x1_0000_0000 * wide64(s[4]) + 0x100_0000_0000 * wide64(s[5])
-            + 0x1_0000_0000_0000 * wide64(s[6]) + 0x100_0000_0000_0000 * wide64(s[7]);
+        let low = four(s[0], s[1], s[2], s[3]) as u64;
+        let high = four(s[4], s[5], s[6], s[7]) as u64;
+        return low + 0x1_0000_0000 * high;
     }
     let low = u32_of(s) as u64;
     let high = u32_of(from(s, 4)) as u64;

@@ -1,0 +1,10 @@
+pub mod Patterns
+pub mod Decode
+pub mod Saturate
+pub mod Unique
+pub mod RootDigits
+pub mod RootLaw
+pub mod RootPack
+pub mod RootCases
+pub mod RootNear
+pub mod RootExamples

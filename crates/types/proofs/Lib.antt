@@ -1,0 +1,4 @@
+pub mod Signs
+pub mod Away
+pub mod Steps
+pub mod OrderExamples

@@ -1,0 +1,3 @@
+// The conversions, the order's number and the order's states of broker/src/types.rs.
+pub mod fixed;
+pub mod order;

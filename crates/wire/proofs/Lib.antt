@@ -5,3 +5,4 @@ pub mod Table
 pub mod Records
 pub mod Large
 pub mod Tags
+pub mod Words

@@ -180,6 +180,53 @@ pub fn put(d: &mut [u8], at: usize, n: usize, x: u64)
     }
 }
 
+// Writes a number of one byte at a place, and of four and eight. One test serves all the bytes; where not all of them are there, `put` writes
+// those that are.
+pub fn put_u8(d: &mut [u8], at: usize, x: u8)
+    ensures { λ _. ⌜ now (d .exit) ≡ sets (now (d .entry)) at (bytesOf 1 x) ⌝ }
+{
+    if d.len() <= at {
+        return;
+    }
+    d[at] = x;
+}
+
+pub fn put_u32(d: &mut [u8], at: usize, x: u32)
+    ensures { λ _. ⌜ now (d .exit) ≡ sets (now (d .entry)) at (bytesOf 4 x) ⌝ }
+{
+    if d.len() <= at {
+        return;
+    }
+    if d.len() - at < 4 {
+        put(d, at, 4, x as u64);
+        return;
+    }
+    d[at] = (x % 256) as u8;
+    d[at + 1] = (x / 0x100 % 256) as u8;
+    d[at + 2] = (x / 0x1_0000 % 256) as u8;
+    d[at + 3] = (x / 0x100_0000 % 256) as u8;
+}
+
+pub fn put_u64(d: &mut [u8], at: usize, x: u64)
+    ensures { λ _. ⌜ now (d .exit) ≡ sets (now (d .entry)) at (bytesOf 8 x) ⌝ }
+{
+    if d.len() <= at {
+        return;
+    }
+    if d.len() - at < 8 {
+        put(d, at, 8, x);
+        return;
+    }
+    d[at] = (x % 256) as u8;
+    d[at + 1] = (x / 0x100 % 256) as u8;
+    d[at + 2] = (x / 0x1_0000 % 256) as u8;
+    d[at + 3] = (x / 0x100_0000 % 256) as u8;
+    d[at + 4] = (x / 0x1_0000_0000 % 256) as u8;
+    d[at + 5] = (x / 0x100_0000_0000 % 256) as u8;
+    d[at + 6] = (x / 0x1_0000_0000_0000 % 256) as u8;
+    d[at + 7] = (x / 0x100_0000_0000_0000 % 256) as u8;
+}
+
 // Writes the bytes of `s` from `at` on.
 pub fn copy(d: &mut [u8], at: usize, s: &[u8])
     ensures { λ _. ⌜ now (d .exit) ≡ sets (now (d .entry)) at (now (s .entry)) ⌝ }

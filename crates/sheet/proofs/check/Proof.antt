@@ -1,0 +1,72 @@
+-- `sheet::check`: the tests, in the order of the refusals.
+use borrow.Author.Needs.{needs}
+use mathlib.Core.Path.{_≡_, sym, ap, _∙_}
+use native.Mathlib.Omega.{arith}
+use denote.Ref.{now}
+use lib.ListN.{length}
+use borrow.Author.Tests.{lt-ltb, le-ltb}
+use Rattle.wire.specs.Layout.{soundIf}
+use Rattle.sheet.specs.Sheet.{orderCount, positionCount, sheetLayout}
+use Rattle.sheet.proofs.check.Statement.{statement}
+use Rattle.sheet.proofs.check.Tie as tie
+
+returns : tie.Need-returns
+unfolding sheetLayout
+returns c = rw (lt-ltb (length (now (c .before .before .args .sheet))) 24 (c .if1 .taken))
+
+order-count-requires : tie.Need-order-count-requires
+order-count-requires c κs = search needs
+
+returns-2 : tie.Need-returns-2
+unfolding sheetLayout
+returns-2 c =
+    let s = now (c .before .before .before .before .args .sheet) in
+    let o = c .before .order-count .ensures in
+    rw (le-ltb (length s) 24 (c .before .before .if1 .left), lt-ltb 1024 (orderCount s) (omega arith))
+
+position-count-requires : tie.Need-position-count-requires
+position-count-requires c κs = search needs
+
+returns-3 : tie.Need-returns-3
+unfolding sheetLayout
+returns-3 c =
+    let s = now (c .before .before .before .before .before .before .args .sheet) in
+    let o = c .before .before .before .order-count .ensures in
+    let p = c .before .position-count .ensures in
+    rw (
+      le-ltb (length s) 24 (c .before .before .before .before .if1 .left),
+      le-ltb 1024 (orderCount s) (omega arith),
+      lt-ltb 1024 (positionCount s) (omega arith),
+    )
+
+parts-ok-requires : tie.Need-parts-ok-requires
+parts-ok-requires c κs = search needs
+
+sound-if-requires : tie.Need-sound-if-requires
+sound-if-requires c κs = search needs
+
+returns-4 : tie.Need-returns-4
+unfolding sheetLayout
+returns-4 c =
+    let s = now (c .before .before .before .before .before .before .before .before .args .sheet) in
+    let o = c .before .before .before .before .before .order-count .ensures in
+    let p = c .before .before .before .position-count .ensures in
+    rw (
+      le-ltb (length s) 24 (c .before .before .before .before .before .before .if1 .left),
+      le-ltb 1024 (orderCount s) (omega arith),
+      le-ltb 1024 (positionCount s) (omega arith),
+    )
+    (c .sound-if .ensures ∙ ap soundIf (c .before .parts-ok .ensures))
+
+pub check-spec : {M : Type 1} → statement M
+check-spec =
+    tie.close
+    (tie.spec
+    returns
+    order-count-requires
+    returns-2
+    position-count-requires
+    returns-3
+    parts-ok-requires
+    sound-if-requires
+    returns-4)

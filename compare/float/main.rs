@@ -4,6 +4,7 @@
 //! compared. The program stops at the first disagreement with exit status 1.
 
 use std::collections::BTreeMap;
+use std::hint::black_box;
 use std::time::Instant;
 
 /// What stands in for broker/src/error.rs: the two cases that the conversions make.
@@ -270,23 +271,23 @@ fn times(random: &mut Random) {
         let mut sum = 0;
         for _ in 0..5 {
             let start = Instant::now();
-            sum = f();
+            sum = black_box(f());
             least = least.min(start.elapsed().as_nanos() as f64 / 1e6);
         }
         (least, sum)
     };
-    let ours = time(&mut || roots.iter().fold(0u64, |a, &n| a ^ unsafe { desk_sqrt(n) }));
-    let rust = time(&mut || roots.iter().fold(0u64, |a, &n| a ^ f64::from_bits(n).sqrt().to_bits()));
+    let ours = time(&mut || roots.iter().fold(0u64, |a, &n| a ^ unsafe { desk_sqrt(black_box(n)) }));
+    let rust = time(&mut || roots.iter().fold(0u64, |a, &n| a ^ f64::from_bits(black_box(n)).sqrt().to_bits()));
     assert_eq!(ours.1, rust.1);
     println!("root: {:.1} ns a call, Rust {:.1} ns", ours.0, rust.0);
     let mut out = [0u8; 8];
     let ours = time(&mut || {
         prices.iter().fold(0u64, |a, &n| {
-            unsafe { desk_f64_cents_checked(n, out.as_mut_ptr(), 8) };
+            unsafe { desk_f64_cents_checked(black_box(n), out.as_mut_ptr(), 8) };
             a ^ u64::from_le_bytes(out)
         })
     });
-    let rust = time(&mut || prices.iter().fold(0u64, |a, &n| a ^ answer(nanobook::f64_cents_checked(f64::from_bits(n), "field")).1 as u64));
+    let rust = time(&mut || prices.iter().fold(0u64, |a, &n| a ^ answer(nanobook::f64_cents_checked(f64::from_bits(black_box(n)), "field")).1 as u64));
     assert_eq!(ours.1, rust.1);
     println!("cents: {:.1} ns a call, Rust {:.1} ns", ours.0, rust.0);
 }

@@ -1,7 +1,7 @@
 -- The sheet's two lists, as a loop over their records reads them, and what a sound sheet is known to hold.
 -- Assumes nothing.
-use Prim.Native.Nat.{ℕ, zero, suc, _+_, _*_, _-_, _≤_, _<_}
-use mathlib.Core.Path.{_≡_, refl, sym, ap, subst, _∙_}
+use Prim.Native.Nat.{ℕ, zero, suc, _+_, _*_, _≤_, _<_}
+use mathlib.Core.Path.{_≡_, refl, sym, subst, _∙_}
 use mathlib.Core.Bool.{Bool, true, false, _&&_, _||_}
 use mathlib.Core.List.{List, [], _∷_}
 use native.Mathlib.Nat.{not-suc-le-zero, le-of-suc-le-suc, mul-suc, mul-zero, add-zero}
@@ -21,8 +21,6 @@ use Rattle.wire.proofs.Numbers.{le-add}
 use Rattle.wire.proofs.Records.{length-records}
 use Rattle.symbol.specs.Symbol.{wideFieldOk}
 use Rattle.symbol.proofs.Text.{and-left, and-right, and-false, and-true}
-use Rattle.sheet.specs.declared.BrokerOrderStatus.{BrokerOrderStatus}
-use Rattle.sheet.specs.declared.BrokerPosition.{BrokerPosition}
 use Rattle.sheet.specs.Sheet.{orderCount, positionCount, ordersFailed, positionsFailed, ordersIn, positionsIn, brokerOrderOk, brokerOrderOf, brokerPositionOf, sheetOrders, sheetPositions, sheetMost, offsetsOk, markOk, headerOk, partsOk, brokenIf, sheetLayout}
 
 -- the state and the four zeros behind it are one number of at most 5

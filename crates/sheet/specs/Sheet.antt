@@ -9,9 +9,8 @@ use mir.Syntax.{w64}
 use mir.Val.{toZ}
 use Rattle.wire.specs.Le.{le}
 use Rattle.wire.specs.Table.{every, records}
-use Rattle.wire.specs.Layout.{soundIf, oversizeIf}
+use Rattle.wire.specs.Layout.{soundIf, oversizeIf, brokenIf}
 use Rattle.wire.specs.declared.layout.Layout.{Layout}
-use Rattle.wire.specs.declared.layout.Layout.the-variants.{Broken}
 use Rattle.symbol.specs.Symbol.{fieldSymbol, wideFieldOk}
 use Rattle.types.specs.Order.{stateOf}
 use Rattle.types.specs.declared.order.OrderState.{OrderState}
@@ -87,10 +86,6 @@ headerOk s =
 unfoldable pub partsOk : List ℕ → Bool
 partsOk s =
     headerOk s && every brokerOrderOk 24 (orderCount s) (ordersIn s) && every wideFieldOk 24 (positionCount s) (positionsIn s)
-
-abbrev pub brokenIf : Bool → Layout → Layout
-brokenIf true y = Broken
-brokenIf false y = y
 
 -- Refusals 1 and 2 of a sheet: a header that is not whole; too many orders or positions, as the header claims; any other rule.
 unfoldable pub sheetLayout : List ℕ → Layout

@@ -6,14 +6,14 @@ use mathlib.Core.Bool.{Bool, true, false, _&&_}
 use mathlib.Core.List.{List, [], _∷_, _++_, append-assoc}
 use native.Mathlib.Nat.{not-suc-le-zero, le-of-suc-le-suc, suc-sub-suc, sub-zero}
 use native.Mathlib.Omega.{arith}
-use lib.Dec.{eqb, leb, ltb}
-use borrow.Author.Tests.{le-leb, lt-leb, lt-ltb, le-ltb, eq-eqb, ne-eqb}
-use lib.ListN.{length, take, drop, getD, replicate, length-take, length-drop, length-append, length-replicate, drop-of-length-le}
-use lib.Seq.{sets, length-take-le, drop-drop, drop-at, take-at, drop-append-le}
+use lib.Dec.{eqb, ltb}
+use borrow.Author.Tests.{le-leb, lt-leb, lt-ltb, le-ltb, ne-eqb}
+use lib.ListN.{length, take, drop, replicate, length-append}
+use lib.Seq.{sets, length-take-le, drop-drop, drop-at, take-at}
 use Rattle.wire.specs.Le.{le, bytesOf}
 use Rattle.wire.specs.Table.{padded}
 use Rattle.wire.proofs.Numbers.{le-add, le-front}
-use Rattle.wire.proofs.Written.{Bytes, none, more, length-bytesOf, le-bytesOf, le-lt}
+use Rattle.wire.proofs.Written.{Bytes, more, length-bytesOf, le-bytesOf, le-lt}
 use Rattle.wire.proofs.Records.{length-padded, sets-append}
 use Rattle.symbol.specs.declared.Symbol.{Symbol}
 use Rattle.symbol.specs.Symbol.{symbolWidth, symbolByte, allOf, parses, symbolOf, fieldSymbol, fieldOk, wideFieldOk, fieldBytes, wideFieldBytes}

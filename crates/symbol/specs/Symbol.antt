@@ -1,7 +1,7 @@
 -- Symbols, as document 01 stands in for the original's: 1 to 8 bytes of A to Z, 0 to 9, '.' and '-'; order by bytes, a prefix first.
 -- A symbol is held as the number that its bytes make, least first, and its length.
 -- Assumes nothing.
-use Prim.Native.Nat.{ℕ, zero, suc, _-_}
+use Prim.Native.Nat.{ℕ, _-_}
 use mathlib.Core.List.{List, [], _∷_, _++_}
 use mathlib.Core.Bool.{Bool, true, false, _&&_, _||_}
 use lib.Dec.{eqb, leb, ltb}

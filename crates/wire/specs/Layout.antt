@@ -28,3 +28,8 @@ soundIf false = Broken
 abbrev pub oversizeIf : Bool → Layout → Layout
 oversizeIf true y = Oversize
 oversizeIf false y = y
+
+-- a test for refusal 2, before another answer
+abbrev pub brokenIf : Bool → Layout → Layout
+brokenIf true y = Broken
+brokenIf false y = y

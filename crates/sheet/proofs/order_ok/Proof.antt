@@ -1,6 +1,5 @@
 -- `sheet::order_ok`: the state and the zeros behind it, read as one number.
 use borrow.Author.Needs.{needs}
-use mathlib.Core.Path.{_∙_, ap}
 use denote.Ref.{now}
 use lib.ListN.{drop}
 use Rattle.sheet.proofs.Lists.{state-number}

@@ -1,6 +1,6 @@
 -- `sheet_cases::put_symbols`: the place and the records left add up, so the place fits.
 use Prim.Native.Nat.{_+_, _*_}
-use mathlib.Core.Path.{_≡_, _∙_}
+use mathlib.Core.Path.{_≡_}
 use lib.ListN.{length}
 use borrow.Author.Needs.{needs}
 use Rattle.sheet_cases.proofs.put_symbols.Statement.{statement}

@@ -1,12 +1,9 @@
 -- `symbol::field_ok`: what is left of the number decides.
-use mathlib.Core.Path.{_≡_, refl, sym, ap, _∙_}
+use mathlib.Core.Path.{_≡_, sym, _∙_}
 use native.Mathlib.Omega.{arith}
 use denote.Ref.{now}
 use borrow.Author.Needs.{needs}
 use borrow.Author.Tests.{not-true, not-false}
-use Rattle.wire.specs.Le.{le}
-use lib.ListN.{drop}
-use Prim.Native.Nat.{_%_, _≤_}
 use Rattle.symbol.specs.Symbol.{symbolByte, fieldOk}
 use Rattle.symbol.proofs.Text.{bytes-of}
 use Rattle.symbol.proofs.Field.{wordOk, word-fails, word-goes, word-none, field-short, field-long, field-word}

@@ -1,7 +1,5 @@
 -- `symbol::symbol_byte`: the tests, with what they rule out.
-use borrow.Author.Tests.{le-leb, lt-leb, eq-eqb, ne-eqb}
-use native.Mathlib.Omega.{arith}
-use mathlib.Core.Path.{sym}
+use borrow.Author.Tests.{lt-leb, eq-eqb, ne-eqb}
 use Rattle.symbol.proofs.Text.{high-byte, low-byte}
 use Rattle.symbol.proofs.symbol_byte.Statement.{statement}
 use Rattle.symbol.proofs.symbol_byte.Tie as tie

@@ -1,7 +1,7 @@
 -- `Symbol::is_text`: the lengths first, then the numbers.
 use borrow.Author.Needs.{needs}
 use borrow.Author.Tests.{eq-eqb, ne-eqb}
-use mathlib.Core.Path.{sym, _∙_}
+use mathlib.Core.Path.{sym}
 use denote.Ref.{now}
 use lib.Dec.{eqb}
 use lib.ListN.{length}

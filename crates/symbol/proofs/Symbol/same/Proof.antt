@@ -1,7 +1,5 @@
 -- `Symbol::same`: the tests, one after the other.
 use borrow.Author.Tests.{eq-eqb, ne-eqb}
-use mathlib.Core.Path.{sym}
-use Rattle.symbol.proofs.Text.{and-false}
 use Rattle.symbol.proofs.Symbol.same.Statement.{statement}
 use Rattle.symbol.proofs.Symbol.same.Tie as tie
 

@@ -1,6 +1,6 @@
 -- `Symbol::try_new`: from i on the bytes may stand in a symbol, and the word is their number.
 use Prim.Native.Nat.{ℕ, _^_, _-_, _≤_, _<_}
-use mathlib.Core.Path.{_≡_, refl, sym, ap, _∙_}
+use mathlib.Core.Path.{_≡_, sym, ap, _∙_}
 use mathlib.Core.Bool.{true, _&&_}
 use native.Mathlib.Omega.{arith}
 use lib.Dec.{leb}

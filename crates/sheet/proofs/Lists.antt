@@ -13,7 +13,7 @@ use lib.ListN.{length, drop, drop-of-length-le}
 use lib.Seq.{drop-drop}
 use Rattle.wire.specs.Le.{le}
 use Rattle.wire.specs.Table.{every, records}
-use Rattle.wire.specs.Layout.{soundIf, oversizeIf}
+use Rattle.wire.specs.Layout.{soundIf, oversizeIf, brokenIf}
 use Rattle.wire.specs.declared.layout.Layout.{Layout}
 use Rattle.wire.specs.declared.layout.Layout.the-variants.{Sound}
 use Rattle.wire.proofs.Table.{records-none}
@@ -21,7 +21,7 @@ use Rattle.wire.proofs.Numbers.{le-add}
 use Rattle.wire.proofs.Records.{length-records}
 use Rattle.symbol.specs.Symbol.{wideFieldOk}
 use Rattle.symbol.proofs.Text.{and-left, and-right, and-false, and-true}
-use Rattle.sheet.specs.Sheet.{orderCount, positionCount, ordersFailed, positionsFailed, ordersIn, positionsIn, brokerOrderOk, brokerOrderOf, brokerPositionOf, sheetOrders, sheetPositions, sheetMost, offsetsOk, markOk, headerOk, partsOk, brokenIf, sheetLayout}
+use Rattle.sheet.specs.Sheet.{orderCount, positionCount, ordersFailed, positionsFailed, ordersIn, positionsIn, brokerOrderOk, brokerOrderOf, brokerPositionOf, sheetOrders, sheetPositions, sheetMost, offsetsOk, markOk, headerOk, partsOk, sheetLayout}
 
 -- the state and the four zeros behind it are one number of at most 5
 low-only : (a x : ℕ) → leb (a + 4294967296 * x) 5 ≡ (leb a 5 && eqb x 0)

@@ -1,0 +1,53 @@
+//! The desk program's printed reply: document 01's form around the original's verdict, state, action and report.
+
+use std::fmt::Write;
+
+use doc01::records::{DISCREPANCY, ORDER, POSITION};
+use doc01::{Book, Refusal, Sheet, ACTIONS, CHECKPOINTS};
+
+use crate::fault;
+use crate::original;
+
+/// The most bytes of a file, and the room of each output.
+pub const LENT: usize = 65_536;
+
+/// The reply to `book.bin` and `sheet.bin`; a missing file is read as empty.
+pub fn reply(book: Option<&[u8]>, sheet: Option<&[u8]>) -> String {
+    match lines(book.unwrap_or(&[]), sheet.unwrap_or(&[])) {
+        Ok(text) => text,
+        Err(refusal) => format!("refused {refusal}\n"),
+    }
+}
+
+fn read<T>(bytes: &[u8], parse: fn(&[u8]) -> Result<T, Refusal>) -> Result<T, Refusal> {
+    if bytes.len() > LENT {
+        return Err(1);
+    }
+    parse(bytes)
+}
+
+fn lines(book: &[u8], sheet: &[u8]) -> Result<String, Refusal> {
+    let book = read(book, Book::parse)?;
+    let sheet = read(sheet, Sheet::parse)?;
+    let said = |what: &str| -> ! { fault(&format!("the original panicked in {what}")) };
+    let verdict = original::verdict(&book).unwrap_or_else(|_| said("validation"));
+    let recovered = original::recover(&book, 0).unwrap_or_else(|_| said("recovery"));
+    let report = original::compare_recovered(&book, &recovered, &sheet).unwrap_or_else(|_| said("comparison"));
+    let state = &recovered.state;
+    if state.orders.len() * ORDER > LENT || state.positions.len() * POSITION > LENT || report.len() * DISCREPANCY > LENT {
+        return Err(3);
+    }
+    let mut out = String::new();
+    let mut line = |text: String| writeln!(out, "{text}").expect("a String takes it");
+    line(format!("verdict {} {} {}", verdict.0, verdict.1, verdict.2));
+    let action = ACTIONS.get(recovered.action as usize).unwrap_or_else(|| fault("an action without a name"));
+    line(format!("action {action}"));
+    line(format!("last {} {}", CHECKPOINTS[state.marks.checkpoint as usize - 1], state.marks.number));
+    line(format!("orders {}", state.orders.len()));
+    line(format!("positions {}", state.positions.len()));
+    line(format!("report {}", report.len()));
+    for discrepancy in &report {
+        line(discrepancy.kind.to_string());
+    }
+    Ok(out)
+}

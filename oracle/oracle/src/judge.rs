@@ -1,0 +1,215 @@
+//! One function for each entry of the library: document 01's bytes in, the refusal or the output out.
+//!
+//! Refusals 1, 2, 3, 8, 11, 12 and 13 and the layouts are document 01's (crate `doc01`); verdicts, marks, records, actions,
+//! reports, entries, drift and conversions are the original's. `room` is the length of a lent output in bytes; an output
+//! holds the bytes given here and zeros behind them, or zeros alone on a refusal.
+
+use doc01::drift as rows;
+use doc01::join::join as joined;
+use doc01::records::{self, DISCREPANCY, ORDER, POSITION};
+use doc01::{Book, Cell, Marks, Refusal, Sheet, State};
+
+use crate::original::{self, Ran};
+use crate::{fault, Panicked};
+
+/// The original's answer where it must not panic.
+fn said<T>(ran: Ran<T>) -> T {
+    ran.unwrap_or_else(|Panicked(text)| fault(&format!("the original panicked: {text}")))
+}
+
+fn room(needed: usize, lent: usize) -> Result<(), Refusal> {
+    if needed > lent {
+        Err(3)
+    } else {
+        Ok(())
+    }
+}
+
+/// Refusal, event, checkpoint.
+pub fn validate_checkpoints_from_parsed(book: &[u8]) -> (u32, u32, u32) {
+    match Book::parse(book) {
+        Ok(book) => said(original::verdict(&book)),
+        Err(refusal) => (refusal, 0, 0),
+    }
+}
+
+#[derive(Debug, Clone, PartialEq, Eq)]
+pub struct Recovery {
+    pub marks: Marks,
+    pub orders: Vec<u8>,
+    pub positions: Vec<u8>,
+    pub action: u32,
+}
+
+pub fn reconstruct_state(book: &[u8], time: i64, orders_room: usize, positions_room: usize) -> Result<Recovery, Refusal> {
+    let book = Book::parse(book)?;
+    doc01::time(time)?;
+    // No event leaves more records than the longest list and one per event.
+    let longest = book.events.iter().flat_map(|e| e.cells).map(|c| match c {
+        Cell::List { count, .. } => count as usize,
+        _ => 0,
+    });
+    let most = longest.max().unwrap_or(0) + book.events.len();
+    if orders_room < most * ORDER || positions_room < most * POSITION {
+        let (orders, positions) = said(original::peak(&book));
+        room(orders * ORDER, orders_room)?;
+        room(positions * POSITION, positions_room)?;
+    }
+    let recovered = said(original::recover(&book, time));
+    Ok(Recovery {
+        marks: recovered.state.marks,
+        orders: recovered.state.order_bytes(),
+        positions: recovered.state.position_bytes(),
+        action: recovered.action,
+    })
+}
+
+/// The marks after the step over event `next` (from 0) of marks that the steps before it left; None at the log's end.
+pub fn step(book: &[u8], time: i64, next: usize) -> Result<Option<Marks>, Refusal> {
+    let book = Book::parse(book)?;
+    if next >= book.events.len() {
+        return Ok(None);
+    }
+    Ok(Some(said(original::marks_after(&book, time, next + 1))))
+}
+
+pub fn determine_recovery_action(marks: &Marks, orders: &[u8]) -> Result<u32, Refusal> {
+    let state = State { marks: *marks, orders: records::orders(orders)?, positions: Vec::new() };
+    Ok(said(original::action(&state)))
+}
+
+/// The report's records.
+pub fn compare_broker_state(
+    marks: &Marks,
+    orders: &[u8],
+    positions: &[u8],
+    sheet: &[u8],
+    report_room: usize,
+) -> Result<Vec<u8>, Refusal> {
+    Sheet::limits(sheet)?;
+    let state = State { marks: *marks, orders: records::orders(orders)?, positions: records::positions(positions)? };
+    let sheet = Sheet::parse(sheet)?;
+    let report = said(original::compare(&state, &sheet));
+    room(report.len() * DISCREPANCY, report_room)?;
+    Ok(records::report_bytes(&report))
+}
+
+#[derive(Debug, Clone, PartialEq, Eq)]
+pub struct Addendum {
+    pub book: Vec<u8>,
+    pub entries: u64,
+    pub unreached: u64,
+}
+
+pub fn reconcile_incomplete_intents(
+    marks: &Marks,
+    orders: &[u8],
+    sheet: &[u8],
+    queries: &[u8],
+    time: i64,
+    book_room: usize,
+) -> Result<Addendum, Refusal> {
+    Sheet::limits(sheet)?;
+    let state = State { marks: *marks, orders: records::orders(orders)?, positions: Vec::new() };
+    let sheet = Sheet::parse(sheet)?;
+    doc01::time(time)?;
+    if marks.number as u128 + 1 + state.intents() as u128 > u64::MAX as u128 {
+        return Err(8);
+    }
+    let reconciled = original::reconcile(&state, &sheet, queries);
+    let unreached = said(reconciled.unreached.clone());
+    let entries = reconciled.entries.len() as u64;
+    if entries + unreached != state.intents() as u64 {
+        fault("entries and unreached do not sum to the intents");
+    }
+    let book = reconciled.addendum(time);
+    if book.length() > doc01::book::MAX_BYTES || book.events.len() > doc01::book::MAX_COUNT as usize {
+        return Err(1);
+    }
+    room(book.length(), book_room)?;
+    Ok(Addendum { book: book.bytes(), entries, unreached })
+}
+
+/// The joined book's bytes. Document 01's alone.
+pub fn join(a: &[u8], b: &[u8], k: u64, book_room: usize) -> Result<Vec<u8>, Refusal> {
+    Book::limits(a)?;
+    Book::limits(b)?;
+    let result = joined(&Book::parse(a)?, &Book::parse(b)?, k)?;
+    room(result.length(), book_room)?;
+    Ok(result.bytes())
+}
+
+/// A recovered state as it is lent: its book, marks and records.
+#[derive(Debug, Clone, Copy)]
+pub struct Lent<'a> {
+    pub book: &'a [u8],
+    pub marks: &'a Marks,
+    pub orders: &'a [u8],
+    pub positions: &'a [u8],
+}
+
+/// State equality. Document 01's alone.
+pub fn states_equal(x: Lent, y: Lent) -> Result<bool, Refusal> {
+    Book::limits(x.book)?;
+    Book::limits(y.book)?;
+    let parse = |l: Lent| -> Result<(Book, State), Refusal> {
+        let book = Book::parse(l.book)?;
+        let state = State { marks: *l.marks, orders: records::orders(l.orders)?, positions: records::positions(l.positions)? };
+        if !state.within(book.text.len()) {
+            return Err(2);
+        }
+        Ok((book, state))
+    };
+    let (a, x) = parse(x)?;
+    let (b, y) = parse(y)?;
+    Ok(records::equal(&a, &x, &b, &y))
+}
+
+pub fn max_checkpoint_sequence(book: &[u8]) -> Result<u64, Refusal> {
+    Ok(said(original::max_checkpoint_sequence(&Book::parse(book)?)))
+}
+
+pub fn check_window_already_complete(book: &[u8], id: &[u8]) -> Result<Option<u64>, Refusal> {
+    Ok(said(original::window_complete(&Book::parse(book)?, id)))
+}
+
+#[derive(Debug, Clone, PartialEq, Eq)]
+pub struct DriftAnswer {
+    pub entries: Vec<u8>,
+    pub tracking: u64,
+}
+
+/// Drift. Refusal 12 is document 01's; the original must panic exactly there.
+pub fn drift(holdings: &[u8], targets: &[u8], prices: &[u8], equity: i64, entry_room: usize) -> Result<DriftAnswer, Refusal> {
+    rows::limit(holdings, POSITION)?;
+    rows::limit(targets, rows::ROW)?;
+    rows::limit(prices, rows::ROW)?;
+    let (holdings, targets, prices) = (records::positions(holdings)?, rows::targets(targets)?, rows::prices(prices)?);
+    rows::weights(&targets)?;
+    let overflow = rows::overflow(&holdings, &targets, &prices, equity);
+    let drift = original::drift(&holdings, &targets, &prices, equity);
+    match (overflow, drift) {
+        (Err(refusal), Err(_)) => Err(refusal),
+        (Ok(()), Ok(drift)) => {
+            room(drift.entries.len() * rows::ENTRY, entry_room)?;
+            Ok(DriftAnswer { entries: rows::entry_bytes(&drift.entries), tracking: drift.tracking })
+        }
+        (Ok(()), Err(Panicked(text))) => fault(&format!("drift panics without refusal 12: {text}")),
+        (Err(_), Ok(_)) => fault("drift answers under refusal 12"),
+    }
+}
+
+/// Held value. Document 01's alone.
+pub fn held_value(holdings: &[u8], prices: &[u8]) -> Result<i64, Refusal> {
+    rows::limit(holdings, POSITION)?;
+    rows::limit(prices, rows::ROW)?;
+    rows::held(&records::positions(holdings)?, &rows::prices(prices)?)
+}
+
+pub fn f64_to_fixed_checked(value: u64, scale: u64) -> Result<i64, Refusal> {
+    said(original::fixed(value, scale))
+}
+
+pub fn f64_cents_checked(value: u64) -> Result<i64, Refusal> {
+    said(original::cents(value))
+}

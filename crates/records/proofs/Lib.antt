@@ -1,0 +1,7 @@
+pub mod Walk
+pub mod WrittenWords
+pub mod Found
+pub mod FlagByte
+pub mod Orders
+pub mod Positions
+pub mod RecordExamples

@@ -12,7 +12,7 @@ pub use generator;
 pub mod answer;
 pub mod desk;
 pub mod differences;
-mod json;
+pub mod json;
 pub mod judge;
 pub mod original;
 pub mod record;

@@ -1,0 +1,36 @@
+-- `exports::book_entries::desk_max_checkpoint_sequence` meets its contract, by those of `max_checkpoint_sequence`, `highest_numbers` and `give`. Assumes nothing.
+use borrow.Author.Needs.{needs}
+use mathlib.Core.Path.{_∙_}
+use lib.ListN.{length}
+use Rattle.exports.proofs.Given.{of-same}
+use Rattle.exports.proofs.book_entries.desk_max_checkpoint_sequence.Statement.{statement}
+use Rattle.exports.proofs.book_entries.desk_max_checkpoint_sequence.Tie as tie
+
+max-checkpoint-sequence-requires : tie.Need-max-checkpoint-sequence-requires
+max-checkpoint-sequence-requires c κs = search needs
+
+highest-numbers-requires : tie.Need-highest-numbers-requires
+highest-numbers-requires c κs = search needs
+
+give-requires : tie.Need-give-requires
+give-requires c κs = search needs
+
+same-length : tie.Need-same-length
+same-length c = search needs
+
+returns : tie.Need-returns
+returns c =
+    let g = c .before .before in
+    let n = g .before .before in
+    let room = length (n .before .before .before .before .args .answer .now) in
+    of-same room (n .highest-numbers .ensures ∙ rw (n .before .max-checkpoint-sequence .ensures)) (g .give .ensures)
+
+pub desk-max-checkpoint-sequence-spec : {M : Type 1} → statement M
+desk-max-checkpoint-sequence-spec =
+    tie.close
+    (tie.spec
+    max-checkpoint-sequence-requires
+    highest-numbers-requires
+    give-requires
+    same-length
+    returns)

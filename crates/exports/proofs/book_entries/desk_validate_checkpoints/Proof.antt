@@ -1,0 +1,36 @@
+-- `exports::book_entries::desk_validate_checkpoints` meets its contract, by those of `validate_checkpoints_from_parsed`, `verdict_numbers` and `give`. Assumes nothing.
+use borrow.Author.Needs.{needs}
+use mathlib.Core.Path.{_∙_}
+use lib.ListN.{length}
+use Rattle.exports.proofs.Given.{of-same}
+use Rattle.exports.proofs.book_entries.desk_validate_checkpoints.Statement.{statement}
+use Rattle.exports.proofs.book_entries.desk_validate_checkpoints.Tie as tie
+
+validate-checkpoints-from-parsed-requires : tie.Need-validate-checkpoints-from-parsed-requires
+validate-checkpoints-from-parsed-requires c κs = search needs
+
+verdict-numbers-requires : tie.Need-verdict-numbers-requires
+verdict-numbers-requires c κs = search needs
+
+give-requires : tie.Need-give-requires
+give-requires c κs = search needs
+
+same-length : tie.Need-same-length
+same-length c = search needs
+
+returns : tie.Need-returns
+returns c =
+    let g = c .before .before in
+    let n = g .before .before in
+    let room = length (n .before .before .before .before .args .answer .now) in
+    of-same room (n .verdict-numbers .ensures ∙ rw (n .before .validate-checkpoints-from-parsed .ensures)) (g .give .ensures)
+
+pub desk-validate-checkpoints-spec : {M : Type 1} → statement M
+desk-validate-checkpoints-spec =
+    tie.close
+    (tie.spec
+    validate-checkpoints-from-parsed-requires
+    verdict-numbers-requires
+    give-requires
+    same-length
+    returns)

@@ -1,0 +1,39 @@
+//! The library and the original side by side: `oracle/compare`.
+
+mod compare;
+mod library;
+mod question;
+mod smallest;
+mod time;
+
+use std::process::ExitCode;
+
+const USAGE: &str = "usage: compare KIND SEED COUNT         compares COUNT cases of a kind; stops at the first disagreement
+       compare faults KIND SEED COUNT  shows that wrong answers would be seen
+       compare time                    times the largest book
+kinds: runs wild damaged limits sheets queries";
+
+fn number(text: &str) -> Result<u64, String> {
+    text.parse().map_err(|_| format!("no number: {text}"))
+}
+
+fn main() -> ExitCode {
+    let args: Vec<String> = std::env::args().skip(1).collect();
+    let args: Vec<&str> = args.iter().map(String::as_str).collect();
+    let with = |run: fn(&str, u64, u64) -> Result<bool, String>, kind, seed, count| run(kind, number(seed)?, number(count)?);
+    let done = match args[..] {
+        ["time"] => time::time(),
+        ["faults", kind, seed, count] => with(compare::faults, kind, seed, count),
+        [kind, seed, count] => with(compare::compare, kind, seed, count),
+        _ => Err(USAGE.into()),
+    };
+    oracle::original::clean();
+    match done {
+        Ok(true) => ExitCode::SUCCESS,
+        Ok(false) => ExitCode::FAILURE,
+        Err(message) => {
+            eprintln!("{message}");
+            ExitCode::from(2)
+        }
+    }
+}

@@ -52,7 +52,7 @@ module _ (m : Marks) (orders positions sheet : List ℕ) where
   pass-all Intents = ap (pass intent) (rest-all orderOf 64 (length orders / 64) orders)
   pass-all IncompleteMarks = refl
 
-  pub pass-next : (p : Pass) (i : ℕ) → i < passCount p orders positions sheet
+  pass-next : (p : Pass) (i : ℕ) → i < passCount p orders positions sheet
       → passFrom p i ≡ before (passAt p i m orders positions sheet) (passFrom p (i + 1))
   pass-next Orphans i h = pass-on _ _ _ _ (orders-step sheet i h)
   pass-next MissingOrders i h = pass-on _ _ _ _ (rest-next orderOf 64 (length orders / 64) orders i h)
@@ -60,6 +60,10 @@ module _ (m : Marks) (orders positions sheet : List ℕ) where
   pass-next RecoveredPositions i h = pass-on _ _ _ _ (rest-next positionOf 32 (length positions / 32) positions i h)
   pass-next Intents i h = pass-on _ _ _ _ (rest-next orderOf 64 (length orders / 64) orders i h)
   pass-next IncompleteMarks i h = pass-on (λ (x : Noted). x) _ _ _ (marks-step m i h)
+
+  pub pass-noted : (p : Pass) (i : ℕ) → i < passCount p orders positions sheet → (x : Noted) → x ≡ passAt p i m orders positions sheet
+      → passFrom p i ≡ before x (passFrom p (i + 1))
+  pass-noted p i h x e = rw e (pass-next p i h)
 
   pub pass-end : (p : Pass) (i : ℕ) → passCount p orders positions sheet ≤ i → passFrom p i ≡ []
   pass-end Orphans i h = pass-over _ _ (orders-end sheet i h)

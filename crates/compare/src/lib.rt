@@ -2,7 +2,7 @@
 //
 // `specs/Report.antt` has the report over values, pass by pass, and its records of 48 bytes; `specs/Compare.antt` the entry's answer and bytes.
 pub mod discrepancy;
-pub mod passes;
+mod passes;
 mod search;
 
 ghost use mathlib.Core.Path.{_≡_};

@@ -1,10 +1,9 @@
 -- The passes over lent bytes, record by record: what is left from the i-th on.
 -- Assumes nothing.
-use Prim.Native.Nat.{ℕ, zero, suc, _+_, _*_, _/_, _≤_, _<_}
-use mathlib.Core.Path.{_≡_, refl, ap, _∙_}
+use Prim.Native.Nat.{ℕ, zero, suc, _+_, _/_, _≤_, _<_}
+use mathlib.Core.Path.{_≡_, refl, ap}
 use mathlib.Core.List.{List, [], _∷_}
 use native.Mathlib.Omega.{arith}
-use native.Mathlib.Numerals.{add-one}
 use lib.ListN.{length, drop, drop-of-length-le}
 use Rattle.records.specs.Record.{orderOf, ordersIn, positionOf, positionsIn}
 use Rattle.records.proofs.Walk.{rest, rest-all, rest-next, rest-none}

@@ -40,10 +40,34 @@ fn report(out: &mut [u8], marks: Marks, orders: &[u8], positions: &[u8], sheet: 
     let s = Stored::Is(0);
     let s = passes::run(out, s, Pass::Orphans, marks, orders, positions, sheet);
     let s = passes::run(out, s, Pass::MissingOrders, marks, orders, positions, sheet);
-    let s = passes::run(out, s, Pass::BrokerPositions, marks, orders, positions, sheet);
-    let s = passes::run(out, s, Pass::RecoveredPositions, marks, orders, positions, sheet);
+    let s = passes::run(
+        out,
+        s,
+        Pass::BrokerPositions,
+        marks,
+        orders,
+        positions,
+        sheet,
+    );
+    let s = passes::run(
+        out,
+        s,
+        Pass::RecoveredPositions,
+        marks,
+        orders,
+        positions,
+        sheet,
+    );
     let s = passes::run(out, s, Pass::Intents, marks, orders, positions, sheet);
-    passes::run(out, s, Pass::IncompleteMarks, marks, orders, positions, sheet)
+    passes::run(
+        out,
+        s,
+        Pass::IncompleteMarks,
+        marks,
+        orders,
+        positions,
+        sheet,
+    )
 }
 
 // The report's answer. A buffer that cannot take it is all zero again.

@@ -186,11 +186,7 @@ pub fn run(
     let mut n = start;
     let mut i = 0;
     while i < m {
-        let put = discrepancy::note(
-            out,
-            n,
-            noted_at(pass, i, marks, orders, positions, sheet),
-        );
+        let put = discrepancy::note(out, n, noted_at(pass, i, marks, orders, positions, sheet));
         let Stored::Is(next) = put else {
             return Stored::Full;
         };

@@ -1,8 +1,6 @@
 -- `report`: each pass behind those before it.
 use borrow.Author.Needs.{needs}
-use Rattle.compare.proofs.report.Statement.{statement}
-use Rattle.compare.proofs.report.Tie as tie
-use mathlib.Core.Path.{_≡_, _∙_}
+use mathlib.Core.Path.{_∙_}
 use mathlib.Core.List.{List, [], _++_}
 use denote.Ref.{now}
 use lib.ListN.{length}
@@ -13,6 +11,8 @@ use Rattle.compare.specs.declared.discrepancy.Stored.the-variants as S
 use Rattle.compare.specs.declared.passes.Pass.{Pass}
 use Rattle.compare.specs.declared.passes.Pass.the-variants.{Orphans, MissingOrders, BrokerPositions, RecoveredPositions, Intents, IncompleteMarks}
 use Rattle.compare.proofs.Adding.{holds-none, holds-more}
+use Rattle.compare.proofs.report.Statement.{statement}
+use Rattle.compare.proofs.report.Tie as tie
 
 clear-requires : tie.Need-clear-requires
 clear-requires c κs = search needs

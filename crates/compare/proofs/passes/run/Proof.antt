@@ -1,8 +1,6 @@
 -- `passes::run`: what the records from the i-th on add to what is written is the whole pass.
-use Rattle.compare.proofs.passes.run.Statement.{statement}
-use Rattle.compare.proofs.passes.run.Tie as tie
 use borrow.Author.Needs.{needs}
-use Prim.Native.Nat.{_+_, _-_, _≤_, _<_}
+use Prim.Native.Nat.{ℕ, _+_, _-_, _≤_, _<_}
 use mathlib.Core.Path.{_≡_, refl, _∙_}
 use mathlib.Core.List.{List}
 use denote.Ref.{now}
@@ -12,6 +10,8 @@ use Rattle.compare.specs.declared.discrepancy.Stored.{Stored}
 use Rattle.compare.specs.declared.discrepancy.Stored.the-variants as S
 use Rattle.compare.proofs.Adding.{adds-none, full-adds, step-on, step-full}
 use Rattle.compare.proofs.Walked.{passFrom, pass-all, pass-noted, pass-end}
+use Rattle.compare.proofs.passes.run.Statement.{statement}
+use Rattle.compare.proofs.passes.run.Tie as tie
 
 abbrev Inv-loop : tie.InvT-loop
 Inv-loop out₀ pass marks orders positions sheet start m n₀ i₀ out n i =
@@ -83,9 +83,11 @@ loop-again c =
     let from = passFrom (a .marks) (now (a .orders)) (now (a .positions)) (now (a .sheet)) (a .pass) in
     let h : l .i < passCount (a .pass) (now (a .orders)) (now (a .positions)) (now (a .sheet)) = rw (← c .before .before .before .before .before .before .before .before .before .before .count .ensures) (c .before .before .before .before .before .before .before .before .loop-test .taken) in
     let z = pass-noted (a .marks) (now (a .orders)) (now (a .positions)) (now (a .sheet)) (a .pass) (l .i) h (x .result) (x .ensures) in
-    let r = c .before .before .before .before .before .note in
-    (r .kept .0 ∙ l .inv .0, λ t e p. l .inv .1 t e
-    (step-on (length (now (a .out))) (x .result) (from (l .i + 1)) (from (l .i)) z (l .n) (l .out) (l .inv .0) (r .result) (r .last .0) (r .ensures) _ (c .before .put .given .1) t e p))
+    let r = c .before .before .before .before .before .note in (
+      r .kept .0 ∙ l .inv .0,
+      λ t e p. l .inv .1 t e
+          (step-on (length (now (a .out))) (x .result) (from (l .i + 1)) (from (l .i)) z (l .n) (l .out) (l .inv .0) (r .result) (r .last .0) (r .ensures) _ (c .before .put .given .1) t e p),
+    )
 
 same-length-2 : tie.Need-same-length-2 Inv-loop μ-loop
 same-length-2 c = c .before .loop .inv .0

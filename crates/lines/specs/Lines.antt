@@ -36,3 +36,13 @@ checkpointName AccountSummaryResult = ascii "AccountSummaryResult"
 checkpointName CancelIntent = ascii "CancelIntent"
 checkpointName CancelResult = ascii "CancelResult"
 checkpointName RunCompleted = ascii "RunCompleted"
+
+-- ---- a text and a number behind it, and a line of both
+abbrev pub newline : List ℕ
+newline = 10 ∷ []
+
+abbrev pub field : List ℕ → ℕ → List ℕ
+field word n = word ++ decimal n
+
+abbrev pub line : List ℕ → ℕ → List ℕ
+line word n = field word n ++ newline

@@ -2,10 +2,10 @@
 //
 // `specs/Lines.antt` has the text of each. What does not fit in the lent bytes is dropped; a caller tests the room for the whole.
 ghost use mathlib.Core.Path.{_≡_};
-ghost use Prim.Native.Nat.{_≤_};
+ghost use Prim.Native.Nat.{_+_, _≤_, _<_};
 ghost use lib.ListN.{length, drop};
 ghost use lib.Seq.{sets};
-ghost use Rattle.lines.specs.Lines.{decimal, checkpointName};
+ghost use Rattle.lines.specs.Lines.{decimal, checkpointName, field, line};
 use checkpoint::Checkpoint;
 
 // Writes a text from `at` on, and returns its length.
@@ -93,4 +93,22 @@ pub fn put_checkpoint_name(d: &mut [u8], at: usize, k: Checkpoint) -> usize
     let first = 20 * (k.number() as usize - 1);
     wire::copy(d, at, wire::part(names, first, len));
     len
+}
+
+// Writes a text and a number behind it from `at` on, and returns the length of both.
+pub fn put_field(d: &mut [u8], at: usize, word: &[u8], n: u64) -> usize
+    requires { ⌜ at + length (now word) < 65536 ⌝ }
+    ensures { λ r. ⌜ (r ≡ length (field (now (word .entry)) n)) × (now (d .exit) ≡ sets (now (d .entry)) at (field (now (word .entry)) n)) × (r ≤ length (now (word .entry)) + 20) ⌝ }
+{
+    let len = put_text(d, at, word);
+    len + put_decimal(d, at + len, n)
+}
+
+// Writes a line of a text and a number from `at` on, and returns its length.
+pub fn put_line(d: &mut [u8], at: usize, word: &[u8], n: u64) -> usize
+    requires { ⌜ at + length (now word) < 65536 ⌝ }
+    ensures { λ r. ⌜ (r ≡ length (line (now (word .entry)) n)) × (now (d .exit) ≡ sets (now (d .entry)) at (line (now (word .entry)) n)) × (r ≤ length (now (word .entry)) + 21) ⌝ }
+{
+    let len = put_field(d, at, word, n);
+    len + put_text(d, at + len, b"\n")
 }

@@ -1,6 +1,4 @@
 -- `lines::put_digits`: the digits still to be written, put before those that are, are the whole.
-use Rattle.lines.proofs.put_digits.Statement.{statement}
-use Rattle.lines.proofs.put_digits.Tie as tie
 use Prim.Native.Nat.{_+_, _-_, _^_, _≤_, _<_}
 use mathlib.Core.Path.{_≡_, refl, sym, _∙_}
 use mathlib.Core.List.{_++_, append-nil}
@@ -10,6 +8,8 @@ use denote.Ref.{now}
 use lib.ListN.{length, drop, length-set, drop-of-length-le}
 use Rattle.lines.specs.Lines.{digits}
 use Rattle.lines.proofs.Digits.{two-places, one-less, digits-turn, digits-last}
+use Rattle.lines.proofs.put_digits.Statement.{statement}
+use Rattle.lines.proofs.put_digits.Tie as tie
 
 abbrev Inv-loop : tie.InvT-loop
 Inv-loop d₀ n first₀ rest₀ d first rest = (length d ≡ 20) × (first ≤ 20) × (0 < first) × (rest < 10 ^ first) × (digits first rest ++ drop first d ≡ digits 20 n)

@@ -1,0 +1,2 @@
+// The desk's reply to a book and a sheet, as document 01 prints it.
+mod text;

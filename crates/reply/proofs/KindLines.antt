@@ -34,7 +34,7 @@ module _ (count : ℕ) (s : List ℕ) where
       × (sets d p (kindsFrom count s i) ≡ sets e (p + m) (kindsFrom count s (i + 1)))
   kinds-on i h d e p m w =
       let k = kindLine (le 4 (drop (48 * i) s)) in
-      let r = kindsFrom count s (i + 1) in
-      ( ap length (kinds-next i h) ∙ length-append k r ∙ ap (λ (x : ℕ). x + length r) (sym (w .0))
-      , ap (sets d p) (kinds-next i h) ∙ sets-append d k r p ∙ rw (w .0, w .1)
+      let r = kindsFrom count s (i + 1) in (
+        ap length (kinds-next i h) ∙ length-append k r ∙ ap (λ (x : ℕ). x + length r) (sym (w .0)),
+        ap (sets d p) (kinds-next i h) ∙ sets-append d k r p ∙ rw (w .0, w .1),
       )

@@ -1,1 +1,3 @@
 pub mod KindLines
+pub mod Compared
+pub mod Room

@@ -13,7 +13,7 @@ ghost use Rattle.wire.specs.Table.{records};
 ghost use Rattle.book.specs.Layout.{bookLayout};
 ghost use Rattle.sheet.specs.Sheet.{sheetLayout};
 ghost use Rattle.reply.specs.Text.{recoveredLines, reportLines};
-ghost use Rattle.reply.specs.Reply.{fileLayout, filesLayout, lentText, bookText, replyText, replied, replyOut};
+ghost use Rattle.reply.specs.Reply.{fileLayout, firstRefusal, filesLayout, lentText, bookText, replyText, replied, replyOut};
 use audit::validate::Verdict;
 use compare::Comparison;
 use recovery::recover::Recovered;
@@ -26,7 +26,7 @@ pub enum Replied {
     NoRoom,
 }
 
-// Refusals 1 and 2 of the book's file, of the sheet's, and of both, the book's first.
+// Refusals 1 and 2 of the book's file and of the sheet's; the first of two refusals; the book's before the sheet's.
 fn book_layout(book: &[u8]) -> Layout
     ensures { λ r. ⌜ r ≡ fileLayout (now (book .entry)) (bookLayout (now (book .entry))) ⌝ }
 {
@@ -45,14 +45,20 @@ fn sheet_layout(sheet: &[u8]) -> Layout
     sheet::check(sheet)
 }
 
-fn files_layout(book: &[u8], sheet: &[u8]) -> Layout
-    ensures { λ r. ⌜ r ≡ filesLayout (now (book .entry)) (now (sheet .entry)) ⌝ }
+fn first_refusal(a: Layout, b: Layout) -> Layout
+    ensures { λ r. ⌜ r ≡ firstRefusal a b ⌝ }
 {
-    match book_layout(book) {
-        Layout::Sound => sheet_layout(sheet),
+    match a {
+        Layout::Sound => b,
         Layout::Oversize => Layout::Oversize,
         Layout::Broken => Layout::Broken,
     }
+}
+
+fn files_layout(book: &[u8], sheet: &[u8]) -> Layout
+    ensures { λ r. ⌜ r ≡ filesLayout (now (book .entry)) (now (sheet .entry)) ⌝ }
+{
+    first_refusal(book_layout(book), sheet_layout(sheet))
 }
 
 // All lines, the report's kinds read from its first `count` records.

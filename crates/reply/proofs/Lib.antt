@@ -1,0 +1,4 @@
+pub mod KindLines
+pub mod Compared
+pub mod Room
+pub mod ReplyExamples

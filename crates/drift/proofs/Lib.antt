@@ -1,0 +1,16 @@
+pub mod Keys
+pub mod Integers
+pub mod Totals
+pub mod Weights
+pub mod Answers
+pub mod Opened
+pub mod Targets
+pub mod Bytes64
+pub mod Ordered
+pub mod Inserted
+pub mod Sized
+pub mod Looked
+pub mod Runs
+pub mod Lines
+pub mod Refusals
+pub mod Valued

@@ -14,3 +14,5 @@ pub mod Runs
 pub mod Lines
 pub mod Refusals
 pub mod Valued
+pub mod Sorted
+pub mod DriftExamples

@@ -63,7 +63,7 @@ module _ {A : Type 0} (f : A → ℕ) where
 
 -- ---- what each element has
 module _ {A : Type 0} (first : A → A → Bool) (P : A → Type 0) where
-  each-inserted : (y : A) (zs : List A) → P y → Each P zs → Each P (inserted first y zs)
+  pub each-inserted : (y : A) (zs : List A) → P y → Each P zs → Each P (inserted first y zs)
   unfolding inserted
   each-inserted y [] p none = more p none
   each-inserted y (z ∷ zs) p (more q qs) = by (each-inserted y zs p qs) (first y z) (first z y)

@@ -71,7 +71,7 @@ pow-eight (suc k) =
     let e : 8 * suc k ≡ 8 + 8 * k = omega arith in
     rw (e, pow-add 2 8 (8 * k), pow-succ' 256 k, pow-eight k)
 
-below : (y : Symbol) → Sized y → y .word < 2 ^ 64
+pub below : (y : Symbol) → Sized y → y .word < 2 ^ 64
 below y z =
     let m = z .most in
     let k : 8 * y .len ≤ 64 = omega arith in

@@ -1,16 +1,16 @@
 -- What an answer of `whole` and `entry` tells of the numbers in it.
 -- Assumes nothing.
-use mathlib.Core.Path.{_≡_, refl, sym, ap, subst, _∙_}
-use mathlib.Core.Bool.{Bool, true, false, cond, _&&_}
+use mathlib.Core.Path.{_≡_, refl, sym, ap, _∙_}
+use mathlib.Core.Bool.{Bool, true, false, cond}
 use Prim.Native.Nat.{ℕ}
 use native.Mathlib.Omega.{arith}
-use lib.IntN.{ℤ, pos, _-ℤ_, _*ℤ_}
+use lib.IntN.{ℤ, pos, _*ℤ_}
 use lib.Signed.{ltZ}
 use lib.Ieee.{Float}
 use mir.Syntax.{w64}
 use mir.Val.{SFits, toZ, ofZ}
 use mir.ValLaws.{toZ-ofZ}
-use Rattle.drift.specs.Entry.{fits64, needed, actualWeight, targetShares, entryOf, entryFits}
+use Rattle.drift.specs.Entry.{fits64, needed, actualWeight, entryOf, entryFits}
 use Rattle.drift.specs.Code.{wholeOf, weightAnswer, madeOf}
 use Rattle.drift.specs.declared.whole.Whole.the-variants as Z
 use Rattle.drift.specs.declared.entry.ReconcileEntry.{ReconcileEntry}
@@ -44,7 +44,6 @@ never-weight : {A : Type 0} {x : Float} → W.Over ≡ W.Is x → A
 never-weight h = let z : _≡_ {A = ℕ} 0 1 = cc in absurd (omega arith)
 
 module _ (quantity price equity : ℤ) where
-
   pub weight-is : (x : Float) → weightAnswer quantity price equity ≡ W.Is x
       → (cond (needed price equity) (fits64 (quantity *ℤ price)) true ≡ true) × (x ≡ actualWeight quantity price equity)
   unfolding weightAnswer

@@ -1,8 +1,8 @@
 -- A number put in its place in an array: what `words::insert`, `words::note` and their loops ask.
 -- Assumes nothing.
-use Prim.Native.Nat.{ℕ, zero, suc, _+_, _-_, _*_, _≤_, _<_}
+use Prim.Native.Nat.{ℕ, zero, suc, _+_, _-_, _≤_, _<_}
 use mathlib.Core.Path.{_≡_, refl, sym, ap, subst, _∙_}
-use mathlib.Core.Bool.{Bool, true, false, cond, _&&_}
+use mathlib.Core.Bool.{Bool, true, false, cond}
 use mathlib.Core.List.{List, [], _∷_, _++_, append-assoc}
 use native.Mathlib.Nat.{not-suc-le-zero, le-of-suc-le-suc, sub-zero, zero-sub, suc-sub-suc}
 use native.Mathlib.Omega.{arith}
@@ -47,6 +47,7 @@ between t x p r h b a = record { low = λ i l. low i l (ltb i (p - 1)) refl; hig
         let k = ltb-false i (p - 1) e in
         let q : p - 1 ≡ i = omega arith in
         subst (λ (j : ℕ). key (getD t j 0) < key x) q (b (omega arith))
+
     high : (i : ℕ) → p ≤ i → i < length t → (v : Bool) → ltb p i ≡ v → key x ≤ key (getD t i 0)
     high i l m true e =
         let k = a (omega arith) in
@@ -144,8 +145,10 @@ module _ (ws : List ℕ) (n x p : ℕ) (r : Rising key (take n ws)) (h : n ≤ l
     where
       j : p < n
       j = ltb-true p n (and-left (ltb p n) (eqb (key (getD ws p 0)) (key x)) f)
+
       e : key (getD ws p 0) ≡ key x
       e = eqb-true (key (getD ws p 0)) (key x) (and-right (ltb p n) (eqb (key (getD ws p 0)) (key x)) f)
+
       by : (v : Bool) → eqb k p ≡ v → getD (set at p bits) k 0 ≡ cond (eqb (key x) (key (getD ws k 0))) bits (getD at k 0)
       by true g =
           let o = eqb-true k p g in

@@ -3,18 +3,16 @@
 use Prim.Native.Nat.{ℕ, zero, suc, _+_, _-_, _*_, _/_, _^_, _≤_, _<_}
 use mathlib.Core.Path.{_≡_, refl, sym, ap, subst, _∙_}
 use mathlib.Core.Bool.{Bool, true, false, cond}
-use native.Mathlib.Nat.{le-div-iff-mul-le, div-le-self, lt-of-not-le, not-suc-le-zero, le-of-suc-le-suc}
+use native.Mathlib.Nat.{le-div-iff-mul-le, div-le-self, lt-of-not-le}
 use native.Mathlib.Omega.{arith}
 use lib.Dec.{T, leb, ltb, leb·suc-suc}
 use borrow.Author.Tests.{ltb-true, ltb-false, lt-ltb, le-ltb, leb-true, leb-false, le-leb, lt-leb}
 use lib.IntN.{ℤ, pos, negsuc, negℤ, subℕ, _+ℤ_, _-ℤ_, _*ℤ_}
 use lib.Signed.{mag, ltZ, leZ, quotZ}
 use mir.Syntax.{w64}
-use mir.Val.{SFits, toZ, ofZ}
-use mir.ValLaws.{toZ-ofZ}
+use mir.Val.{SFits, ofZ}
 use Rattle.drift.specs.Entry.{fits64}
 use Rattle.drift.specs.Code.{wholeOf}
-use Rattle.drift.specs.declared.whole.Whole.{Whole}
 use Rattle.drift.specs.declared.whole.Whole.the-variants as Z
 
 pub never : {A : Type 0} → false ≡ true → A
@@ -29,7 +27,6 @@ leb-iff a b c d f g = by (leb a b) refl
     by false e =
         let h = leb-false a b e in
         sym (lt-leb c d (lt-of-not-le (λ (k : c ≤ d). let l = g k in absurd (omega arith))))
-
 
 -- the sign of a number that is not 0, and how a product of it compares
 neg-le : (k m : ℕ) → leZ (negℤ (pos k)) (negsuc m) ≡ leb (suc m) k

@@ -1,7 +1,7 @@
 -- Symbols' numbers with their bytes the other way round: they are in order as the symbols are, and tell them apart.
 -- Assumes nothing.
 use Prim.Native.Nat.{ℕ, zero, suc, _+_, _*_, _^_, _%_, _/_, _≤_, _<_}
-use mathlib.Core.Path.{_≡_, refl, sym, ap, _∙_}
+use mathlib.Core.Path.{_≡_, refl, sym, ap}
 use mathlib.Core.Bool.{Bool, true, false, _&&_, _||_}
 use native.Mathlib.Nat.{pow-succ', mul-le-mul-right, div-lt-iff-lt-mul, div-div-eq-div-mul, mul-comm}
 use native.Mathlib.Omega.{arith}
@@ -27,6 +27,7 @@ behind a b s t m e = by (ltb s t) refl
   where
     k : a * m ≡ b * m
     k = ap (λ (i : ℕ). i * m) e
+
     by : (v : Bool) → ltb s t ≡ v → v ≡ ltb (a * m + s) (b * m + t)
     by true q = let h = ltb-true s t q in sym (lt-ltb (a * m + s) (b * m + t) (omega (arith, k)))
     by false q = let h = ltb-false s t q in sym (le-ltb (a * m + s) (b * m + t) (omega (arith, k)))

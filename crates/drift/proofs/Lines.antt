@@ -1,12 +1,11 @@
 -- The arrays hold a line for each symbol that is held or targeted, in symbol order.
 -- Assumes nothing.
-use Prim.Native.Nat.{ℕ, zero, suc, _+_, _≤_, _<_}
+use Prim.Native.Nat.{ℕ, _+_, _≤_, _<_}
 use mathlib.Core.Path.{_≡_, refl, sym, ap, _∙_}
 use mathlib.Core.List.{List, [], _∷_, _++_, map}
 use native.Mathlib.Nat.{zero-add}
 use native.Mathlib.Omega.{arith}
-use lib.Ieee.{Float, binary64, ofBits}
-use lib.IntN.{ℤ, pos}
+use lib.Ieee.{binary64, ofBits}
 use lib.ListN.{length, take, getD, replicate, length-map, List·getD-map, getD-replicate}
 use lib.Seq.{length-take-le, getD-take}
 use mir.Syntax.{w64}
@@ -15,7 +14,7 @@ use Rattle.wire.proofs.Records.{Each, none}
 use Rattle.symbol.specs.Symbol.{before}
 use Rattle.symbol.specs.declared.Symbol.{Symbol}
 use Rattle.drift.specs.Rows.{valued}
-use Rattle.drift.specs.Symbols.{lastOf, keys, sortedWith, symbolsOf}
+use Rattle.drift.specs.Symbols.{keys, sortedWith, symbolsOf}
 use Rattle.drift.specs.Report.{lineOf, linesOf}
 use Rattle.drift.specs.Code.{keyFirst, symbolAt, wordsOf, lastBits, Noted, lineAt, run}
 use Rattle.drift.proofs.Ordered.{each-sorted, each-append, each-at, sorted-append, map-sorted}

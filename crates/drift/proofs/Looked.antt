@@ -1,16 +1,14 @@
 -- Lookups: what was last said of a symbol is what was last said of its number; and the lines that the arrays hold.
 -- Assumes nothing.
-use Prim.Native.Nat.{ℕ, zero, suc, _+_, _-_, _*_, _/_, _%_, _≤_, _<_}
+use Prim.Native.Nat.{ℕ, zero, suc, _+_, _*_, _/_, _%_, _≤_, _<_}
 use mathlib.Core.Path.{_≡_, refl, sym, ap, _∙_}
-use mathlib.Core.Bool.{Bool, true, false, cond, _&&_}
-use mathlib.Core.List.{List, [], _∷_, _++_, map}
-use native.Mathlib.Nat.{not-suc-le-zero, le-of-suc-le-suc, add-zero}
-use native.Mathlib.Numerals.{add-one}
+use mathlib.Core.Bool.{Bool, true, false, cond}
+use mathlib.Core.List.{List, [], _∷_, map}
+use native.Mathlib.Nat.{add-zero}
 use native.Mathlib.Omega.{arith}
 use lib.Dec.{eqb, ltb}
-use borrow.Author.Tests.{ltb-false, eqb-true}
-use lib.ListN.{length, take, drop, getD}
-use lib.Seq.{drop-drop}
+use borrow.Author.Tests.{ltb-false}
+use lib.ListN.{length, drop, getD}
 use Rattle.wire.specs.Le.{le}
 use Rattle.wire.specs.Table.{every, records}
 use Rattle.wire.specs.Layout.{oversizeIf, soundIf}

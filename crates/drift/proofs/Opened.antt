@@ -1,12 +1,12 @@
 -- One turn of the loop that moves elements up.
 -- Assumes nothing.
 use Prim.Native.Nat.{ℕ, zero, suc, _+_, _-_, _≤_, _<_}
-use mathlib.Core.Path.{_≡_, refl, sym, ap, _∙_}
-use mathlib.Core.List.{List, [], _∷_, _++_, append-assoc}
+use mathlib.Core.Path.{_≡_, sym, ap, _∙_}
+use mathlib.Core.List.{List, _∷_, _++_}
 use native.Mathlib.Nat.{not-suc-le-zero}
 use native.Mathlib.Omega.{arith}
 use lib.ListN.{length, take, drop, getD, set, take-append-drop, List·getD-append}
-use lib.Seq.{length-take-le, take-suc, drop-cons, append-snoc, set-at, getD-take, take-add}
+use lib.Seq.{length-take-le, take-suc, drop-cons, append-snoc, set-at, getD-take}
 
 -- the elements from j on, excluding the n-th, stand one place up; the j-th still stands in its own place too
 abbrev pub opened : List ℕ → ℕ → ℕ → List ℕ

@@ -1,9 +1,9 @@
 -- The refusals of `reconcile` and `held_value`, in their order.
 -- Assumes nothing.
-use Prim.Native.Nat.{ℕ, _/_, _≤_}
-use mathlib.Core.Path.{_≡_, refl, sym, ap, _∙_}
-use mathlib.Core.Bool.{Bool, true, false, cond}
-use mathlib.Core.List.{List, [], _∷_, map}
+use Prim.Native.Nat.{ℕ}
+use mathlib.Core.Path.{_≡_, refl}
+use mathlib.Core.Bool.{true, false}
+use mathlib.Core.List.{List, [], map}
 use native.Mathlib.Omega.{arith}
 use lib.IntN.{ℤ}
 use lib.ListN.{replicate}
@@ -14,7 +14,7 @@ use Rattle.wire.specs.Table.{every, records}
 use Rattle.records.specs.Record.{tableOk}
 use Rattle.drift.specs.Rows.{valued, heldIn, targetsIn, pricesIn, rowsLayout}
 use Rattle.drift.specs.Symbols.{allWhere}
-use Rattle.drift.specs.Entry.{Line, weightOk}
+use Rattle.drift.specs.Entry.{weightOk}
 use Rattle.drift.specs.Report.{linesOf, reportOf, outputOf, values, listsLayout, driftOf, driftBytes}
 use Rattle.drift.specs.Value.{worth, valueOf, heldOf}
 use Rattle.drift.specs.Code.{SoundLists}

@@ -2,9 +2,9 @@
 -- Assumes nothing.
 use Prim.Native.Nat.{ℕ, zero, suc, _+_, _-_, _*_, _/_, _%_, _^_, _≤_, _<_}
 use mathlib.Core.Path.{_≡_, refl, sym, ap, subst, _∙_}
-use mathlib.Core.Bool.{Bool, true, false, _&&_}
-use mathlib.Core.List.{List, [], _∷_}
-use native.Mathlib.Nat.{not-suc-le-zero, lt-of-not-le, not-le-of-lt, pow-le-pow-right, pow-succ'}
+use mathlib.Core.Bool.{Bool, true, false}
+use mathlib.Core.List.{List}
+use native.Mathlib.Nat.{lt-of-not-le, not-le-of-lt, pow-le-pow-right, pow-succ'}
 use native.Mathlib.Omega.{arith}
 use lib.Dec.{T, eqb, ltb}
 use borrow.Author.Tests.{ltb-true, ltb-false, eqb-true, eqb-false, eq-eqb, ne-eqb}
@@ -12,10 +12,10 @@ use lib.Count.{leadingZeros, leading-top}
 use lib.ListN.{drop}
 use lib.Pow.{pow-add}
 use Rattle.wire.specs.Le.{le}
-use Rattle.wire.proofs.Written.{Bytes, le-lt}
+use Rattle.wire.proofs.Written.{Bytes}
 use Rattle.symbol.specs.Symbol.{symbolByte, fieldSymbol, fieldOk, wideFieldOk, sameSymbol}
 use Rattle.symbol.specs.declared.Symbol.{Symbol}
-use Rattle.symbol.proofs.Text.{and-left, and-right, bytes-drop}
+use Rattle.symbol.proofs.Text.{and-left, and-right}
 use Rattle.symbol.proofs.Field.{wordOk, field-word, field-short, field-long}
 use Rattle.drift.specs.Code.{key, lenOf, symbolAt}
 use Rattle.drift.proofs.Keys.{same-key}
@@ -50,6 +50,7 @@ sized s b h = by (ltb (le 1 (drop 8 s)) 1) refl (ltb 8 (le 1 (drop 8 s))) refl
   where
     f : fieldOk s ≡ true
     f = and-left (fieldOk s) (eqb (le 7 (drop 9 s)) 0) h
+
     by : (u : Bool) → ltb (le 1 (drop 8 s)) 1 ≡ u → (v : Bool) → ltb 8 (le 1 (drop 8 s)) ≡ v → Sized (fieldSymbol s)
     by true e v g = never (sym (field-short s (ltb-true (le 1 (drop 8 s)) 1 e)) ∙ f)
     by false e true g = never (sym (field-long s (ltb-true 8 (le 1 (drop 8 s)) g)) ∙ f)

@@ -1,15 +1,14 @@
 -- The targets' weights, one after the other.
 -- Assumes nothing.
-use Prim.Native.Nat.{ℕ, _+_, _*_, _-_, _≤_, _<_}
-use mathlib.Core.Path.{_≡_, refl, sym, ap, _∙_}
-use mathlib.Core.List.{List, [], _∷_}
-use mathlib.Core.Bool.{Bool, true, false, _&&_}
+use Prim.Native.Nat.{ℕ, _+_, _*_, _≤_, _<_}
+use mathlib.Core.Path.{_≡_, sym, ap}
+use mathlib.Core.List.{List}
+use mathlib.Core.Bool.{Bool, true, false}
 use lib.Ieee.{Float, binary64, ofBits}
 use lib.ListN.{drop}
 use lib.Seq.{drop-drop}
 use Rattle.wire.specs.Le.{le}
 use Rattle.wire.specs.Table.{records}
-use Rattle.symbol.specs.declared.Symbol.{Symbol}
 use Rattle.records.proofs.Walk.{rest, rest-all, rest-next, rest-none}
 use Rattle.drift.specs.Rows.{rowOf, valued}
 use Rattle.drift.specs.Symbols.{allWhere}

@@ -1,13 +1,13 @@
 -- Held value by its tests: each product, then the total.
 -- Assumes nothing.
 use Prim.Native.Nat.{ℕ, _*_, _^_}
-use mathlib.Core.Path.{_≡_, refl, sym, ap, _∙_}
-use mathlib.Core.Bool.{Bool, true, false}
-use mathlib.Core.List.{List, map}
+use mathlib.Core.Path.{_≡_}
+use mathlib.Core.Bool.{true, false}
+use mathlib.Core.List.{List}
 use lib.IntN.{ℤ, subℕ}
 use lib.ListN.{length}
 use Rattle.drift.specs.Symbols.{allWhere}
-use Rattle.drift.specs.Entry.{Line, fits64}
+use Rattle.drift.specs.Entry.{fits64}
 use Rattle.drift.specs.Value.{total, valueOf}
 use Rattle.drift.specs.declared.held.Held.the-variants as H
 use Rattle.drift.proofs.Totals.{raisedSum, total-is}

@@ -3,7 +3,7 @@
 use Prim.Native.Nat.{ℕ, zero, suc, _+_, _-_, _*_, _^_, _%_, _/_, _≤_, _<_}
 use mathlib.Core.Path.{_≡_}
 use mathlib.Core.List.{List, [], _∷_}
-use mathlib.Core.Bool.{Bool, true, false, cond, _&&_}
+use mathlib.Core.Bool.{Bool, true, cond, _&&_}
 use lib.Dec.{eqb, ltb}
 use lib.Count.{leadingZeros}
 use lib.IntN.{ℤ, pos, negsuc, subℕ, _*ℤ_}
@@ -16,7 +16,6 @@ use Rattle.wire.specs.declared.layout.Layout.the-variants.{Sound}
 use Rattle.drift.specs.Rows.{rowsLayout}
 use Rattle.drift.specs.Symbols.{sortedWith}
 use Rattle.drift.specs.Entry.{Line, fits64, needed, actualWeight, entryOf, entryFits}
-use Rattle.drift.specs.declared.entry.ReconcileEntry.{ReconcileEntry}
 use Rattle.drift.specs.declared.entry.Made.{Made}
 use Rattle.drift.specs.declared.entry.Made.the-variants as M
 use Rattle.drift.specs.declared.entry.Weight.{Weight}

@@ -1,8 +1,9 @@
 -- `reconcile`: a line for each symbol that is held or targeted, in symbol order, its entry, and the tracking error.
 -- Assumes nothing.
 use Prim.Native.Nat.{ℕ, _*_, max}
+use mathlib.Core.Path.{_≡_}
 use mathlib.Core.List.{List, [], _∷_, _++_, map}
-use mathlib.Core.Bool.{Bool, true, false, cond}
+use mathlib.Core.Bool.{cond}
 use lib.Dec.{leb}
 use lib.IntN.{ℤ, pos}
 use lib.Ieee.{Float, binary64, add, mul, div, ofInt, ofBits}
@@ -14,7 +15,7 @@ use Rattle.wire.specs.declared.layout.Layout.the-variants as Lay
 use Rattle.float.specs.Root.{sqrt}
 use Rattle.symbol.specs.declared.Symbol.{Symbol}
 use Rattle.drift.specs.Rows.{heldIn, targetsIn, pricesIn, rowsLayout}
-use Rattle.drift.specs.Symbols.{lastOf, keys, inserted, sortedWith, symbolsOf, allWhere}
+use Rattle.drift.specs.Symbols.{lastOf, keys, sortedWith, symbolsOf, allWhere}
 use Rattle.drift.specs.Entry.{Line, weightOk, entryOf, entryFits, lineEntry, lineFits, lineBytes}
 use Rattle.drift.specs.declared.entry.ReconcileEntry.{ReconcileEntry}
 use Rattle.drift.specs.declared.report.Drift.{Drift}
@@ -89,6 +90,10 @@ outputOf D.Broken lines equity room = replicate room 0
 outputOf D.BadWeight lines equity room = replicate room 0
 outputOf D.OutOfRange lines equity room = replicate room 0
 outputOf D.NoRoom lines equity room = replicate room 0
+
+-- an answer and a buffer at exit, by the lines
+abbrev pub Reported : Drift → List ℕ → List Line → ℤ → ℕ → Type 0
+Reported r after lines equity room = (r ≡ reportOf lines equity room) × (after ≡ outputOf r lines equity room)
 
 unfoldable pub driftBytes : List ℕ → List ℕ → List ℕ → ℤ → ℕ → List ℕ
 unfolding driftOf linesOf

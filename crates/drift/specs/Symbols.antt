@@ -1,7 +1,7 @@
 -- Maps and the sorted list of symbols. `proofs/Sorted.antt` shows that the sort is one: in order, without repeats, and of the same symbols.
 -- Assumes nothing.
 use mathlib.Core.List.{List, [], _∷_}
-use mathlib.Core.Bool.{Bool, true, false, cond, _&&_}
+use mathlib.Core.Bool.{Bool, true, cond, _&&_}
 use Rattle.symbol.specs.Symbol.{sameSymbol, before}
 use Rattle.symbol.specs.declared.Symbol.{Symbol}
 

@@ -89,7 +89,14 @@ pub fn put_entry(d: &mut [u8], at: usize, x: u64, e: ReconcileEntry)
     if d.len() <= at {
         return;
     }
-    put_four(d, at, x, len_of(x), to_bits(e.target_weight), to_bits(e.actual_weight));
+    put_four(
+        d,
+        at,
+        x,
+        len_of(x),
+        to_bits(e.target_weight),
+        to_bits(e.actual_weight),
+    );
     let target = wire::unsigned(e.target_shares);
     let actual = wire::unsigned(e.actual_shares);
     let diff = wire::unsigned(e.diff_shares);

@@ -2,7 +2,6 @@
 ghost use mathlib.Core.Path.{_≡_};
 ghost use mathlib.Core.List.{[], map};
 ghost use Prim.Native.Nat.{_+_, _*_, _^_, _≤_, _<_};
-ghost use lib.IntN.{pos};
 ghost use lib.ListN.{length};
 ghost use Rattle.wire.specs.declared.layout.Layout.the-variants.{Sound};
 ghost use Rattle.drift.specs.Rows.{heldIn, pricesIn, rowsLayout};

@@ -1,10 +1,9 @@
 // `reconcile`: the entries of what is held against what is wanted, and the tracking error.
 ghost use mathlib.Core.Path.{_≡_};
 ghost use Prim.Native.Nat.{_≤_, max};
-ghost use lib.Ieee.{binary64};
 ghost use lib.ListN.{length, replicate};
 ghost use Rattle.drift.specs.Rows.{heldIn, targetsIn, pricesIn};
-ghost use Rattle.drift.specs.Report.{linesOf, trackingError, reportOf, outputOf, listsLayout, driftOf, driftBytes};
+ghost use Rattle.drift.specs.Report.{linesOf, trackingError, Reported, listsLayout, driftOf, driftBytes};
 ghost use Rattle.drift.specs.Code.{linesAt, SoundLists, Blank, Filled};
 use crate::entry;
 use crate::entry::Made;
@@ -76,7 +75,7 @@ fn write_entries(
     entries: &mut [u8],
 ) -> Drift
     requires { ⌜ Filled n (now words) (now quantities) (now weights) (now costs) ⌝ ∗ ⌜ now entries ≡ replicate (length (now entries)) 0 ⌝ }
-    ensures { λ r. ⌜ (r ≡ reportOf (linesAt (now (words .entry)) (now (quantities .entry)) (now (weights .entry)) (now (costs .entry)) n) equity (length (now (entries .entry)))) × (now (entries .exit) ≡ outputOf r (linesAt (now (words .entry)) (now (quantities .entry)) (now (weights .entry)) (now (costs .entry)) n) equity (length (now (entries .entry)))) ⌝ }
+    ensures { λ r. ⌜ Reported r (now (entries .exit)) (linesAt (now (words .entry)) (now (quantities .entry)) (now (weights .entry)) (now (costs .entry)) n) equity (length (now (entries .entry))) ⌝ }
 {
     let mut sum = 0.0;
     let mut k = 0;
@@ -102,7 +101,7 @@ fn write_entries(
 // The entries of lists that are sound.
 fn report(positions: &[u8], targets: &[u8], prices: &[u8], equity: i64, entries: &mut [u8]) -> Drift
     requires { ⌜ SoundLists (now positions) (now targets) (now prices) ⌝ ∗ ⌜ now entries ≡ replicate (length (now entries)) 0 ⌝ }
-    ensures { λ r. ⌜ (r ≡ reportOf (linesOf (heldIn (now (positions .entry))) (targetsIn (now (targets .entry))) (pricesIn (now (prices .entry)))) equity (length (now (entries .entry)))) × (now (entries .exit) ≡ outputOf r (linesOf (heldIn (now (positions .entry))) (targetsIn (now (targets .entry))) (pricesIn (now (prices .entry)))) equity (length (now (entries .entry)))) ⌝ }
+    ensures { λ r. ⌜ Reported r (now (entries .exit)) (linesOf (heldIn (now (positions .entry))) (targetsIn (now (targets .entry))) (pricesIn (now (prices .entry)))) equity (length (now (entries .entry))) ⌝ }
 {
     let mut words = [0u64; 2048];
     let mut quantities = [0u64; 2048];

@@ -2,7 +2,6 @@
 ghost use mathlib.Core.Path.{_≡_};
 ghost use Prim.Native.Nat.{_/_, _≤_, _<_};
 ghost use lib.Ieee.{binary64, ofBits};
-ghost use lib.ListN.{length};
 ghost use Rattle.wire.specs.Table.{records};
 ghost use Rattle.drift.specs.Rows.{rowOf, valued, rowsLayout};
 ghost use Rattle.drift.specs.Symbols.{allWhere};

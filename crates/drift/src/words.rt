@@ -12,7 +12,8 @@ ghost use Rattle.drift.specs.Code.{swapped, key, keyFirst, Rising, Place
 fn four(x: u64) -> u64
     ensures { λ r. ⌜ r ≡ swapped 4 x ⌝ }
 {
-    x % 256 * 0x100_0000 + (x / 0x100 % 256 * 0x1_0000 + (x / 0x1_0000 % 256 * 0x100 + x / 0x100_0000 % 256))
+    x % 256 * 0x100_0000
+        + (x / 0x100 % 256 * 0x1_0000 + (x / 0x1_0000 % 256 * 0x100 + x / 0x100_0000 % 256))
 }
 
 // The bytes of a symbol's number the other way round.

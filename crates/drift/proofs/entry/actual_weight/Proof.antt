@@ -5,7 +5,6 @@ use Rattle.drift.proofs.entry.actual_weight.Tie as tie
 use mathlib.Core.Path.{_≡_, sym, _∙_}
 use mathlib.Core.Bool.{true, false}
 use lib.IntN.{_*ℤ_}
-use lib.Ieee.{ofBits}
 use mir.Syntax.{w64}
 use mir.ValLaws.{toZ-ofZ}
 use Rattle.drift.specs.Entry.{actualWeight}

@@ -2,17 +2,14 @@
 use borrow.Author.Needs.{needs}
 use Rattle.drift.proofs.entry.entry_of.Statement.{statement}
 use Rattle.drift.proofs.entry.entry_of.Tie as tie
-use mathlib.Core.Path.{_≡_, refl, sym, ap, _∙_}
-use mathlib.Core.Bool.{Bool, true, false, cond}
+use mathlib.Core.Path.{_≡_, sym, _∙_}
 use lib.IntN.{_-ℤ_}
-use lib.Ieee.{binary64, sub}
 use mir.Syntax.{w64}
 use mir.ValLaws.{toZ-ofZ}
 use Rattle.drift.specs.Entry.{targetShares, entryOf, entryFits}
 use Rattle.drift.specs.Code.{wholeOf, weightAnswer, madeOf}
 use Rattle.drift.specs.declared.whole.Whole.the-variants as Z
 use Rattle.drift.specs.declared.entry.Weight.the-variants as W
-use Rattle.drift.specs.declared.entry.Made.the-variants as M
 use Rattle.drift.proofs.Answers.{weight-is, weight-over, whole-is, whole-over}
 
 actual-weight-requires : tie.Need-actual-weight-requires

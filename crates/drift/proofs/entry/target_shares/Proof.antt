@@ -2,7 +2,7 @@
 use borrow.Author.Needs.{needs}
 use Rattle.drift.proofs.entry.target_shares.Statement.{statement}
 use Rattle.drift.proofs.entry.target_shares.Tie as tie
-use mathlib.Core.Path.{_≡_, _∙_}
+use mathlib.Core.Path.{_∙_}
 use mathlib.Core.Bool.{true, false}
 use mir.Syntax.{w64}
 use mir.ValLaws.{toZ-ofZ}

@@ -2,11 +2,9 @@
 use borrow.Author.Needs.{needs}
 use Rattle.drift.proofs.held.held_value.Statement.{statement}
 use Rattle.drift.proofs.held.held_value.Tie as tie
-use mathlib.Core.Path.{_≡_, sym, ap, _∙_}
+use mathlib.Core.Path.{_≡_, sym, _∙_}
 use denote.Ref.{now}
-use mir.Syntax.{w64}
 use Rattle.wire.specs.Layout.{bothOf}
-use Rattle.wire.specs.declared.layout.Layout.{Layout}
 use Rattle.wire.specs.declared.layout.Layout.the-variants as Lay
 use Rattle.drift.specs.Rows.{rowsLayout}
 use Rattle.drift.proofs.Refusals.{both-sound, held-oversize, held-broken, held-sound}

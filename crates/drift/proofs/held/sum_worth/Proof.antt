@@ -2,20 +2,17 @@
 use Rattle.drift.proofs.held.sum_worth.Statement.{statement}
 use Rattle.drift.proofs.held.sum_worth.Tie as tie
 use borrow.Author.Needs.{needs}
-use Prim.Native.Nat.{ℕ, _+_, _*_, _-_, _/_, _%_, _^_, _≤_, _<_}
-use mathlib.Core.Path.{_≡_, refl, sym, ap, _∙_}
-use mathlib.Core.Bool.{true, false}
-use mathlib.Core.List.{List, [], map}
+use Prim.Native.Nat.{_+_, _*_, _-_, _^_, _≤_, _<_}
+use mathlib.Core.Path.{_≡_, sym, ap, _∙_}
+use mathlib.Core.List.{[], map}
 use native.Mathlib.Omega.{arith}
 use denote.Ref.{now}
-use lib.IntN.{ℤ, subℕ}
-use lib.ListN.{length}
 use mir.Syntax.{w64}
-use mir.Val.{SFits, toZ, ofZ}
+use mir.Val.{SFits}
 use mir.ValLaws.{toZ-ofZ}
 use Rattle.drift.specs.Symbols.{allWhere}
 use Rattle.drift.specs.Entry.{fits64}
-use Rattle.drift.specs.Value.{worth, worthOf, total}
+use Rattle.drift.specs.Value.{worth, total}
 use Rattle.drift.specs.Code.{wholeOf, lineAt, linesAt, raised}
 use Rattle.drift.specs.declared.whole.Whole.the-variants as Z
 use Rattle.drift.specs.declared.held.Held.the-variants as H

@@ -2,8 +2,7 @@
 use borrow.Author.Needs.{needs}
 use Rattle.drift.proofs.held.value.Statement.{statement}
 use Rattle.drift.proofs.held.value.Tie as tie
-use Prim.Native.Nat.{ℕ}
-use mathlib.Core.Path.{_≡_, refl, sym, ap, _∙_}
+use mathlib.Core.Path.{refl, ap, _∙_}
 use mathlib.Core.List.{List, [], map}
 use denote.Ref.{now}
 use lib.Ieee.{Float}

@@ -1,87 +1,94 @@
 -- `report::lines`: the symbols are in order, and what is noted of each is what was last said.
 use borrow.Author.Needs.{needs}
-use Rattle.drift.proofs.report.lines.Statement.{statement}
-use Rattle.drift.proofs.report.lines.Tie as tie
-use Prim.Native.Nat.{ℕ, _+_, _/_, _≤_}
-use mathlib.Core.Path.{_≡_, sym, ap, subst, _∙_}
+use Prim.Native.Nat.{ℕ, _/_, _≤_}
+use mathlib.Core.Path.{_≡_, ap, subst, _∙_}
 use mathlib.Core.List.{List}
 use native.Mathlib.Omega.{arith}
 use denote.Ref.{now}
 use lib.ListN.{length, replicate, length-replicate}
-use Rattle.wire.proofs.Records.{length-records}
+use Rattle.wire.proofs.Records.{Each, length-records}
+use Rattle.symbol.specs.declared.Symbol.{Symbol}
 use Rattle.symbol.proofs.Text.{bytes-of}
 use Rattle.drift.specs.Rows.{rowOf, rowsIn}
 use Rattle.drift.specs.Symbols.{sortedWith}
-use Rattle.drift.specs.Code.{keyFirst, wordsOf, Rising, Noted}
+use Rattle.drift.specs.Code.{keyFirst, wordsOf, Noted}
 use Rattle.drift.specs.Code as Code
 use Rattle.drift.proofs.Looked.{sound-rows}
+use Rattle.drift.proofs.Sized.{Sized}
 use Rattle.drift.proofs.Lines.{lines-are}
+use Rattle.drift.proofs.report.lines.Statement.{statement}
+use Rattle.drift.proofs.report.lines.Tie as tie
+
+-- an array of 2,048 zeros
+zeros : (l : List ℕ) → l ≡ replicate 2048 0 → length l ≡ 2048
+zeros l e = ap length e ∙ length-replicate {A = ℕ} 2048 0
+
+-- the rows of the three lists
+held-rows : (s : tie.After-slice-known4)
+    → (length (now (s .before .before .before .before .before .before .before .args .positions)) / 32 ≤ 1024) × Each (λ (r : Symbol × ℕ). Sized (r .0)) (rowsIn 32 (now (s .before .before .before .before .before .before .before .args .positions)))
+held-rows s =
+    let p = now (s .before .before .before .before .before .before .before .args .positions) in
+    sound-rows 32 p (bytes-of p (s .before .before .before .before .before .before .shared-slice-known .given)) (s .before .before .before .before .before .before .before .pre .0 .held)
+
+target-rows : (s : tie.After-slice-known4)
+    → (length (now (s .before .before .before .before .before .before .before .args .targets)) / 24 ≤ 1024) × Each (λ (r : Symbol × ℕ). Sized (r .0)) (rowsIn 24 (now (s .before .before .before .before .before .before .before .args .targets)))
+target-rows s =
+    let t = now (s .before .before .before .before .before .before .before .args .targets) in
+    sound-rows 24 t (bytes-of t (s .before .before .before .before .before .shared-slice-known2 .given)) (s .before .before .before .before .before .before .before .pre .0 .wanted)
+
+price-rows : (s : tie.After-slice-known4)
+    → (length (now (s .before .before .before .before .before .before .before .args .prices)) / 24 ≤ 1024) × Each (λ (r : Symbol × ℕ). Sized (r .0)) (rowsIn 24 (now (s .before .before .before .before .before .before .before .args .prices)))
+price-rows s =
+    let q = now (s .before .before .before .before .before .before .before .args .prices) in
+    sound-rows 24 q (bytes-of q (s .before .before .before .before .shared-slice-known3 .given)) (s .before .before .before .before .before .before .before .pre .0 .priced)
+
+-- how many are taken behind the first list, and behind both, of 2,048
+some-most : (g : tie.After-gather) → g .gather .result ≤ 1024
+some-most g =
+    let p = now (g .before .before .before .before .before .before .before .before .before .args .positions) in
+    omega (arith, held-rows (g .before .before) .0, g .gather .ensures .most, length-records rowOf 32 (length p / 32) p)
+
+all-most : (k : tie.After-gather2) → k .gather2 .result ≤ 2048
+all-most k =
+    let t = now (k .before .before .before .before .before .before .before .before .before .before .before .before .before .args .targets) in
+    omega (arith, some-most (k .before .before .before .before), target-rows (k .before .before .before .before .before .before) .0, k .gather2 .ensures .most, length-records rowOf 24 (length t / 24) t)
+
+first-size : (g : tie.After-gather) → length (g .gather .last .1 .1 .1 .0) ≡ 2048
+first-size g = g .gather .kept .1 .1 .1 .0 ∙ zeros (now (g .before .before .before .before .before .before .before .before .before .args .words)) (g .before .before .before .before .before .before .before .before .before .pre .1 .words)
+
+all-size : (k : tie.After-gather2) → length (k .gather2 .last .1 .1 .1 .0) ≡ 2048
+all-size k = k .gather2 .kept .1 .1 .1 .0 ∙ first-size (k .before .before .before .before)
 
 gather-requires : tie.Need-gather-requires
 gather-requires c κs =
-    let a = c .before .before .before .before .before .before .before .before .args in
-    let b = c .before .before .before .before .before .before .before .before .pre .1 in
-    let h = sound-rows 32 (now (a .positions)) (bytes-of (now (a .positions)) (c .before .before .before .before .before .before .before .shared-slice-known .given)) (c .before .before .before .before .before .before .before .before .pre .0 .held) .0 in
-    let w = ap length (b .words) ∙ length-replicate {A = ℕ} 2048 0 in
+    let s = c .before in
+    let h = held-rows s .0 in
+    let w = zeros (now (s .before .before .before .before .before .before .before .args .words)) (s .before .before .before .before .before .before .before .pre .1 .words) in
     (omega arith, (h, (omega (arith, h, w), Code.Rising.none)))
 
 gather-requires-2 : tie.Need-gather-requires-2
 gather-requires-2 c κs =
-    let a = c .before .before .before .before .before .before .before .before .before .before .before .before .args in
-    let b = c .before .before .before .before .before .before .before .before .before .before .before .before .pre .1 in
-    let g = c .before .before .before .gather in
-    let p = sound-rows 32 (now (a .positions)) (bytes-of (now (a .positions)) (c .before .before .before .before .before .before .before .before .before .before .before .shared-slice-known .given)) (c .before .before .before .before .before .before .before .before .before .before .before .before .pre .0 .held) .0 in
-    let t = sound-rows 24 (now (a .targets)) (bytes-of (now (a .targets)) (c .before .before .before .before .before .before .before .before .before .before .shared-slice-known2 .given)) (c .before .before .before .before .before .before .before .before .before .before .before .before .pre .0 .wanted) .0 in
-    let w = g .kept .1 .1 .1 .0 ∙ ap length (b .words) ∙ length-replicate {A = ℕ} 2048 0 in
-    let m = g .ensures .most in
-    let l = length-records rowOf 32 (length (now (a .positions)) / 32) (now (a .positions)) in
-    (omega arith, (t, (omega (arith, p, t, w, m, l), g .ensures .rising)))
+    let g = c .before .before .before in
+    let t = target-rows (g .before .before) .0 in
+    (omega arith, (t, (omega (arith, t, some-most g, first-size g), g .gather .ensures .rising)))
 
 last-values-requires : tie.Need-last-values-requires
 last-values-requires c κs =
-    let a = c .before .before .before .before .before .before .before .before .before .before .before .before .before .before .before .before .before .args in
-    let b = c .before .before .before .before .before .before .before .before .before .before .before .before .before .before .before .before .before .pre .1 in
-    let g = c .before .before .before .before .before .before .before .before .gather in
-    let k = c .before .before .before .before .gather2 in
-    let p = sound-rows 32 (now (a .positions)) (bytes-of (now (a .positions)) (c .before .before .before .before .before .before .before .before .before .before .before .before .before .before .before .before .shared-slice-known .given)) (c .before .before .before .before .before .before .before .before .before .before .before .before .before .before .before .before .before .pre .0 .held) .0 in
-    let t = sound-rows 24 (now (a .targets)) (bytes-of (now (a .targets)) (c .before .before .before .before .before .before .before .before .before .before .before .before .before .before .before .shared-slice-known2 .given)) (c .before .before .before .before .before .before .before .before .before .before .before .before .before .before .before .before .before .pre .0 .wanted) .0 in
-    let w = k .kept .1 .1 .1 .0 ∙ g .kept .1 .1 .1 .0 ∙ ap length (b .words) ∙ length-replicate {A = ℕ} 2048 0 in
-    let v = ap length (b .quantities) ∙ length-replicate {A = ℕ} 2048 0 in
-    let l = length-records rowOf 32 (length (now (a .positions)) / 32) (now (a .positions)) in
-    let m = length-records rowOf 24 (length (now (a .targets)) / 24) (now (a .targets)) in
-    let n : k .result ≤ 2048 = omega (arith, p, t, g .ensures .most, k .ensures .most, l, m) in
-    (omega arith, (p, (omega (arith, n, w), (omega (arith, n, v), k .ensures .rising))))
+    let k = c .before .before .before .before in
+    let v = zeros (now (k .before .before .before .before .before .before .before .before .before .before .before .before .before .args .quantities)) (k .before .before .before .before .before .before .before .before .before .before .before .before .before .pre .1 .quantities) in
+    (omega arith, (held-rows (k .before .before .before .before .before .before) .0, (omega (arith, all-most k, all-size k), (omega (arith, all-most k, v), k .gather2 .ensures .rising))))
 
 last-values-requires-2 : tie.Need-last-values-requires-2
 last-values-requires-2 c κs =
-    let a = c .before .before .before .before .before .before .before .before .before .before .before .before .before .before .before .before .before .before .before .before .before .before .args in
-    let b = c .before .before .before .before .before .before .before .before .before .before .before .before .before .before .before .before .before .before .before .before .before .before .pre .1 in
-    let g = c .before .before .before .before .before .before .before .before .before .before .before .before .before .gather in
-    let k = c .before .before .before .before .before .before .before .before .before .gather2 in
-    let p = sound-rows 32 (now (a .positions)) (bytes-of (now (a .positions)) (c .before .before .before .before .before .before .before .before .before .before .before .before .before .before .before .before .before .before .before .before .before .shared-slice-known .given)) (c .before .before .before .before .before .before .before .before .before .before .before .before .before .before .before .before .before .before .before .before .before .before .pre .0 .held) .0 in
-    let t = sound-rows 24 (now (a .targets)) (bytes-of (now (a .targets)) (c .before .before .before .before .before .before .before .before .before .before .before .before .before .before .before .before .before .before .before .before .shared-slice-known2 .given)) (c .before .before .before .before .before .before .before .before .before .before .before .before .before .before .before .before .before .before .before .before .before .before .pre .0 .wanted) .0 in
-    let w = k .kept .1 .1 .1 .0 ∙ g .kept .1 .1 .1 .0 ∙ ap length (b .words) ∙ length-replicate {A = ℕ} 2048 0 in
-    let v = ap length (b .weights) ∙ length-replicate {A = ℕ} 2048 0 in
-    let l = length-records rowOf 32 (length (now (a .positions)) / 32) (now (a .positions)) in
-    let m = length-records rowOf 24 (length (now (a .targets)) / 24) (now (a .targets)) in
-    let n : k .result ≤ 2048 = omega (arith, p, t, g .ensures .most, k .ensures .most, l, m) in
-    (omega arith, (t, (omega (arith, n, w), (omega (arith, n, v), k .ensures .rising))))
+    let k = c .before .before .before .before .before .before .before .before .before in
+    let v = zeros (now (k .before .before .before .before .before .before .before .before .before .before .before .before .before .args .weights)) (k .before .before .before .before .before .before .before .before .before .before .before .before .before .pre .1 .weights) in
+    (omega arith, (target-rows (k .before .before .before .before .before .before) .0, (omega (arith, all-most k, all-size k), (omega (arith, all-most k, v), k .gather2 .ensures .rising))))
 
 last-values-requires-3 : tie.Need-last-values-requires-3
 last-values-requires-3 c κs =
-    let a = c .before .before .before .before .before .before .before .before .before .before .before .before .before .before .before .before .before .before .before .before .before .before .before .before .before .before .before .args in
-    let b = c .before .before .before .before .before .before .before .before .before .before .before .before .before .before .before .before .before .before .before .before .before .before .before .before .before .before .before .pre .1 in
-    let g = c .before .before .before .before .before .before .before .before .before .before .before .before .before .before .before .before .before .before .gather in
-    let k = c .before .before .before .before .before .before .before .before .before .before .before .before .before .before .gather2 in
-    let p = sound-rows 32 (now (a .positions)) (bytes-of (now (a .positions)) (c .before .before .before .before .before .before .before .before .before .before .before .before .before .before .before .before .before .before .before .before .before .before .before .before .before .before .shared-slice-known .given)) (c .before .before .before .before .before .before .before .before .before .before .before .before .before .before .before .before .before .before .before .before .before .before .before .before .before .before .before .pre .0 .held) .0 in
-    let t = sound-rows 24 (now (a .targets)) (bytes-of (now (a .targets)) (c .before .before .before .before .before .before .before .before .before .before .before .before .before .before .before .before .before .before .before .before .before .before .before .before .before .shared-slice-known2 .given)) (c .before .before .before .before .before .before .before .before .before .before .before .before .before .before .before .before .before .before .before .before .before .before .before .before .before .before .before .pre .0 .wanted) .0 in
-    let q = sound-rows 24 (now (a .prices)) (bytes-of (now (a .prices)) (c .before .before .before .before .before .before .before .before .before .before .before .before .before .before .before .before .before .before .before .before .before .before .before .before .shared-slice-known3 .given)) (c .before .before .before .before .before .before .before .before .before .before .before .before .before .before .before .before .before .before .before .before .before .before .before .before .before .before .before .pre .0 .priced) .0 in
-    let w = k .kept .1 .1 .1 .0 ∙ g .kept .1 .1 .1 .0 ∙ ap length (b .words) ∙ length-replicate {A = ℕ} 2048 0 in
-    let v = ap length (b .costs) ∙ length-replicate {A = ℕ} 2048 0 in
-    let l = length-records rowOf 32 (length (now (a .positions)) / 32) (now (a .positions)) in
-    let m = length-records rowOf 24 (length (now (a .targets)) / 24) (now (a .targets)) in
-    let n : k .result ≤ 2048 = omega (arith, p, t, g .ensures .most, k .ensures .most, l, m) in
-    (omega arith, (q, (omega (arith, n, w), (omega (arith, n, v), k .ensures .rising))))
+    let k = c .before .before .before .before .before .before .before .before .before .before .before .before .before .before in
+    let v = zeros (now (k .before .before .before .before .before .before .before .before .before .before .before .before .before .args .costs)) (k .before .before .before .before .before .before .before .before .before .before .before .before .before .pre .1 .costs) in
+    (omega arith, (price-rows (k .before .before .before .before .before .before) .0, (omega (arith, all-most k, all-size k), (omega (arith, all-most k, v), k .gather2 .ensures .rising))))
 
 same-length : tie.Need-same-length
 same-length c = search needs
@@ -97,29 +104,29 @@ same-length-4 c = search needs
 
 returns : tie.Need-returns
 returns c =
-    let a = c .before .before .before .before .before .before .before .before .before .before .before .before .before .before .before .before .before .before .before .before .before .before .before .before .before .before .before .before .before .before .args in
-    let b = c .before .before .before .before .before .before .before .before .before .before .before .before .before .before .before .before .before .before .before .before .before .before .before .before .before .before .before .before .before .before .pre .1 in
-    let g = c .before .before .before .before .before .before .before .before .before .before .before .before .before .before .before .before .before .before .before .before .before .gather in
-    let k = c .before .before .before .before .before .before .before .before .before .before .before .before .before .before .before .before .before .gather2 in
-    let p = sound-rows 32 (now (a .positions)) (bytes-of (now (a .positions)) (c .before .before .before .before .before .before .before .before .before .before .before .before .before .before .before .before .before .before .before .before .before .before .before .before .before .before .before .before .before .shared-slice-known .given)) (c .before .before .before .before .before .before .before .before .before .before .before .before .before .before .before .before .before .before .before .before .before .before .before .before .before .before .before .before .before .before .pre .0 .held) in
-    let t = sound-rows 24 (now (a .targets)) (bytes-of (now (a .targets)) (c .before .before .before .before .before .before .before .before .before .before .before .before .before .before .before .before .before .before .before .before .before .before .before .before .before .before .before .before .shared-slice-known2 .given)) (c .before .before .before .before .before .before .before .before .before .before .before .before .before .before .before .before .before .before .before .before .before .before .before .before .before .before .before .before .before .before .pre .0 .wanted) in
-    let q = sound-rows 24 (now (a .prices)) (bytes-of (now (a .prices)) (c .before .before .before .before .before .before .before .before .before .before .before .before .before .before .before .before .before .before .before .before .before .before .before .before .before .before .before .shared-slice-known3 .given)) (c .before .before .before .before .before .before .before .before .before .before .before .before .before .before .before .before .before .before .before .before .before .before .before .before .before .before .before .before .before .before .pre .0 .priced) in
-    let w = k .kept .1 .1 .1 .0 ∙ g .kept .1 .1 .1 .0 ∙ ap length (b .words) ∙ length-replicate {A = ℕ} 2048 0 in
-    let l = length-records rowOf 32 (length (now (a .positions)) / 32) (now (a .positions)) in
-    let m = length-records rowOf 24 (length (now (a .targets)) / 24) (now (a .targets)) in
-    let pn = p .0 in
-    let tn = t .0 in
-    let n : k .result ≤ 2048 = omega (arith, pn, tn, g .ensures .most, k .ensures .most, l, m) in
+    let k = c .before .before .before .before .before .before .before .before .before .before .before .before .before .before .before .before .before in
+    let g = k .before .before .before .before in
+    let s = k .before .before .before .before .before .before in
+    let a = k .before .before .before .before .before .before .before .before .before .before .before .before .before .args in
+    let b = k .before .before .before .before .before .before .before .before .before .before .before .before .before .pre .1 in
+    let quantity = c .before .before .before .before .before .before .before .before .before .before .before .before .last-values in
+    let weight = c .before .before .before .before .before .before .before .last-values2 in
+    let cost = c .before .before .last-values3 in
     let rp = rowsIn 32 (now (a .positions)) in
     let rt = rowsIn 24 (now (a .targets)) in
     let rq = rowsIn 24 (now (a .prices)) in
-    let ws = k .last .1 .1 .1 .0 in
-    let s = k .ensures .sorted ∙ ap (λ (z : List ℕ). sortedWith keyFirst z (wordsOf rt)) (g .ensures .sorted) in
-    (n,
-    lines-are rp rt rq (p .1) (t .1) (q .1) ws (c .before .before .before .before .before .before .before .before .before .before .before .before .last-values .last .1 .1 .1 .1 .1 .0) (c .before .before .before .before .before .before .before .last-values2 .last .1 .1 .1 .1 .1 .0) (c .before .before .last-values3 .last .1 .1 .1 .1 .1 .0) (k .result) (omega (arith, n, w)) n s
-    (subst (λ (z : List ℕ). Noted ws (k .result) rp z (c .before .before .before .before .before .before .before .before .before .before .before .before .last-values .last .1 .1 .1 .1 .1 .0)) (b .quantities) (c .before .before .before .before .before .before .before .before .before .before .before .before .last-values .ensures))
-    (subst (λ (z : List ℕ). Noted ws (k .result) rt z (c .before .before .before .before .before .before .before .last-values2 .last .1 .1 .1 .1 .1 .0)) (b .weights) (c .before .before .before .before .before .before .before .last-values2 .ensures))
-    (subst (λ (z : List ℕ). Noted ws (k .result) rq z (c .before .before .last-values3 .last .1 .1 .1 .1 .1 .0)) (b .costs) (c .before .before .last-values3 .ensures)))
+    let n = k .gather2 .result in
+    let ws = k .gather2 .last .1 .1 .1 .0 in
+    let us = quantity .last .1 .1 .1 .1 .1 .0 in
+    let ts = weight .last .1 .1 .1 .1 .1 .0 in
+    let cs = cost .last .1 .1 .1 .1 .1 .0 in
+    let sorted = k .gather2 .ensures .sorted ∙ ap (λ (z : List ℕ). sortedWith keyFirst z (wordsOf rt)) (g .gather .ensures .sorted) in (
+      all-most k,
+      lines-are rp rt rq (held-rows s .1) (target-rows s .1) (price-rows s .1) ws us ts cs n (omega (arith, all-most k, all-size k)) (all-most k) sorted
+          (subst (λ (z : List ℕ). Noted ws n rp z us) (b .quantities) (quantity .ensures))
+          (subst (λ (z : List ℕ). Noted ws n rt z ts) (b .weights) (weight .ensures))
+          (subst (λ (z : List ℕ). Noted ws n rq z cs) (b .costs) (cost .ensures)),
+    )
 
 pub lines-spec : {M : Type 1} → statement M
 lines-spec =

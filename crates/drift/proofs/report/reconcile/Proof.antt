@@ -3,8 +3,7 @@ use borrow.Author.Needs.{needs}
 use Rattle.drift.proofs.report.reconcile.Statement.{statement}
 use Rattle.drift.proofs.report.reconcile.Tie as tie
 use Prim.Native.Nat.{ℕ}
-use mathlib.Core.Path.{_≡_, sym, ap, _∙_}
-use mathlib.Core.Bool.{true, false}
+use mathlib.Core.Path.{sym, ap, _∙_}
 use denote.Ref.{now}
 use lib.ListN.{length, replicate}
 use mir.Syntax.{w64}

@@ -2,7 +2,6 @@
 use borrow.Author.Needs.{needs}
 use Rattle.drift.proofs.report.report.Statement.{statement}
 use Rattle.drift.proofs.report.report.Tie as tie
-use mathlib.Core.Path.{_≡_, _∙_}
 use mir.Syntax.{w64}
 use mir.ValLaws.{toZ-ofZ}
 

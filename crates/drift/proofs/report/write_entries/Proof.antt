@@ -2,15 +2,14 @@
 use Rattle.drift.proofs.report.write_entries.Statement.{statement}
 use Rattle.drift.proofs.report.write_entries.Tie as tie
 use borrow.Author.Needs.{needs}
-use Prim.Native.Nat.{ℕ, _+_, _*_, _-_, _/_, _≤_, _<_}
+use Prim.Native.Nat.{ℕ, _+_, _*_, _-_, _≤_}
 use mathlib.Core.Path.{_≡_, refl, sym, ap, subst, _∙_}
-use mathlib.Core.Bool.{true, false}
 use mathlib.Core.List.{List, map}
 use native.Mathlib.Nat.{mul-zero}
 use native.Mathlib.Omega.{arith}
 use denote.Ref.{now}
 use lib.IntN.{ℤ}
-use lib.Ieee.{Float, binary64, add, mul, ofBits}
+use lib.Ieee.{binary64, add, mul, ofBits}
 use lib.ListN.{length, getD, replicate}
 use lib.Seq.{sets}
 use mir.Syntax.{w64}
@@ -96,9 +95,10 @@ returns c =
     let z : madeOf (f (l .k) .quantity) (f (l .k) .weight) (f (l .k) .price) e ≡ M.OutOfRange = rw (q, p, c .before .before .before .before .before .before .before .before .before .from-bits .ensures) at (sym (c .before .before .before .before .before .before .entry-of .ensures) ∙ c .before .before .before .before .enum-told .given .1) in
     let r = made-over (f (l .k) .quantity) (f (l .k) .weight) (f (l .k) .price) e z in
     let all = linesAt (now (a .words)) (now (a .quantities)) (now (a .weights)) (now (a .costs)) (a .n) in
-    subst (λ (e : ℤ). (D.OutOfRange ≡ reportOf all e (length (now (a .entries)))) × (c .before .before .clear .last .0 ≡ replicate (length (now (a .entries))) 0)) (toZ-ofZ w64 (a .equity) (c .before .before .before .before .before .before .before .before .before .before .before .before .before .before .before .before .before .before .before .before .fits .equity))
-    (out-of-range f (a .n) e (length (now (a .entries))) (l .inv .2 ∙ all-stop f (a .n) (lineFits e) (l .k) (c .before .before .before .before .before .before .before .before .before .before .before .before .before .loop-test .taken) r),
-    c .before .before .clear .ensures ∙ ap (λ (m : ℕ). replicate {A = ℕ} m 0) (l .inv .0))
+    subst (λ (e : ℤ). (D.OutOfRange ≡ reportOf all e (length (now (a .entries)))) × (c .before .before .clear .last .0 ≡ replicate (length (now (a .entries))) 0)) (toZ-ofZ w64 (a .equity) (c .before .before .before .before .before .before .before .before .before .before .before .before .before .before .before .before .before .before .before .before .fits .equity)) (
+      out-of-range f (a .n) e (length (now (a .entries))) (l .inv .2 ∙ all-stop f (a .n) (lineFits e) (l .k) (c .before .before .before .before .before .before .before .before .before .before .before .before .before .loop-test .taken) r),
+      c .before .before .clear .ensures ∙ ap (λ (m : ℕ). replicate {A = ℕ} m 0) (l .inv .0),
+    )
 
 mul-put-entry : tie.Need-mul-put-entry Inv-loop μ-loop
 mul-put-entry c = search needs
@@ -130,12 +130,15 @@ loop-again c =
     let z : madeOf (f (l .k) .quantity) (f (l .k) .weight) (f (l .k) .price) e ≡ M.Is x = rw (q, p, c .before .before .before .before .before .before .before .before .before .before .before .before .from-bits .ensures) at (sym (c .before .before .before .before .before .before .before .before .before .entry-of .ensures) ∙ c .before .before .before .before .before .before .before .made .given .1) in
     let r = made-is (f (l .k) .quantity) (f (l .k) .weight) (f (l .k) .price) e x z in
     let h = c .before .before .before .before .before .before .before .before .before .before .before .before .before .before .before .before .loop-test .taken in
-    let after = left f (a .n) (l .k + 1) in
-    (c .before .before .before .put-entry .kept .0 ∙ l .inv .0, omega arith, l .inv .2 ∙ all-next f (a .n) (lineFits e) (l .k) h (r .0),
-    ap (λ (y : ReconcileEntry). squares (add binary64 (l .sum) (mul binary64 (y .«diff_weight») (y .«diff_weight»))) (map (lineEntry e) after)) (r .1) ∙ sym (squares-next f (a .n) e (l .sum) (l .k) h) ∙ l .inv .3,
-    ap (λ (d : List ℕ). sets d (64 * (l .k + 1)) (encoded (lineBytes e) after))
-    (c .before .before .before .put-entry .ensures ∙ ap (λ (y : ReconcileEntry). sets (l .entries) (64 * l .k) (entryBytes (symbolAt (getD (now (a .words)) (l .k) 0)) y)) (r .1))
-    ∙ sym (bytes-next f (a .n) e (l .entries) (l .k) h) ∙ l .inv .4)
+    let after = left f (a .n) (l .k + 1) in (
+      c .before .before .before .put-entry .kept .0 ∙ l .inv .0,
+      omega arith,
+      l .inv .2 ∙ all-next f (a .n) (lineFits e) (l .k) h (r .0),
+      ap (λ (y : ReconcileEntry). squares (add binary64 (l .sum) (mul binary64 (y .«diff_weight») (y .«diff_weight»))) (map (lineEntry e) after)) (r .1) ∙ sym (squares-next f (a .n) e (l .sum) (l .k) h) ∙ l .inv .3,
+      ap (λ (d : List ℕ). sets d (64 * (l .k + 1)) (encoded (lineBytes e) after))
+          (c .before .before .before .put-entry .ensures ∙ ap (λ (y : ReconcileEntry). sets (l .entries) (64 * l .k) (entryBytes (symbolAt (getD (now (a .words)) (l .k) 0)) y)) (r .1))
+          ∙ sym (bytes-next f (a .n) e (l .entries) (l .k) h) ∙ l .inv .4,
+    )
 
 clear-requires-2 : tie.Need-clear-requires-2 Inv-loop μ-loop
 clear-requires-2 c κs = search needs
@@ -150,9 +153,10 @@ returns-2 c =
     let e = toZ w64 (ofZ w64 (a .equity)) in
     let f = lineAt (now (a .words)) (now (a .quantities)) (now (a .weights)) (now (a .costs)) in
     let all = linesAt (now (a .words)) (now (a .quantities)) (now (a .weights)) (now (a .costs)) (a .n) in
-    subst (λ (e : ℤ). (D.NoRoom ≡ reportOf all e (length (now (a .entries)))) × (c .before .before .clear2 .last .0 ≡ replicate (length (now (a .entries))) 0)) (toZ-ofZ w64 (a .equity) (c .before .before .before .before .before .before .before .before .before .before .before .before .fits .equity))
-    (no-room f (a .n) e (length (now (a .entries))) (l .inv .2 ∙ all-end f (a .n) (lineFits e) (l .k) (c .before .before .before .before .before .loop-test .left)) (omega (arith, c .before .before .before .before .if1 .taken, l .inv .0)),
-    c .before .before .clear2 .ensures ∙ ap (λ (m : ℕ). replicate {A = ℕ} m 0) (l .inv .0))
+    subst (λ (e : ℤ). (D.NoRoom ≡ reportOf all e (length (now (a .entries)))) × (c .before .before .clear2 .last .0 ≡ replicate (length (now (a .entries))) 0)) (toZ-ofZ w64 (a .equity) (c .before .before .before .before .before .before .before .before .before .before .before .before .fits .equity)) (
+      no-room f (a .n) e (length (now (a .entries))) (l .inv .2 ∙ all-end f (a .n) (lineFits e) (l .k) (c .before .before .before .before .before .loop-test .left)) (omega (arith, c .before .before .before .before .if1 .taken, l .inv .0)),
+      c .before .before .clear2 .ensures ∙ ap (λ (m : ℕ). replicate {A = ℕ} m 0) (l .inv .0),
+    )
 
 cast-t36 : tie.Need-cast-t36 Inv-loop μ-loop
 cast-t36 c = search needs
@@ -174,10 +178,11 @@ returns-3 c =
     let fit : 64 * a .n ≤ room = omega (arith, c .before .if1 .left, l .inv .0) in
     let s = sym (squares-end f (a .n) e (l .sum) (l .k) h) ∙ l .inv .3 in
     let all = linesAt (now (a .words)) (now (a .quantities)) (now (a .weights)) (now (a .costs)) (a .n) in
-    subst (λ (e : ℤ). (D.Done (a .n) (c .tracking-error .result) ≡ reportOf all e (length (now (a .entries)))) × (l .entries ≡ padded (length (now (a .entries))) (encoded (lineBytes e) all))) (toZ-ofZ w64 (a .equity) (c .before .before .before .before .before .before .before .before .before .fits .equity))
-    (ap (D.Done (a .n)) (c .tracking-error .ensures) ∙ done f (a .n) e room (l .sum) (l .inv .2 ∙ all-end f (a .n) (lineFits e) (l .k) h) fit s,
-    sym (bytes-end f (a .n) e (l .entries) (l .k) h) ∙ l .inv .4 ∙ ap (λ (d : List ℕ). sets d 0 (encoded (lineBytes e) (linesAt (now (a .words)) (now (a .quantities)) (now (a .weights)) (now (a .costs)) (a .n)))) (c .before .before .before .before .before .before .before .before .before .pre .1)
-    ∙ bytes-whole f (a .n) e room fit)
+    subst (λ (e : ℤ). (D.Done (a .n) (c .tracking-error .result) ≡ reportOf all e (length (now (a .entries)))) × (l .entries ≡ padded (length (now (a .entries))) (encoded (lineBytes e) all))) (toZ-ofZ w64 (a .equity) (c .before .before .before .before .before .before .before .before .before .fits .equity)) (
+      ap (D.Done (a .n)) (c .tracking-error .ensures) ∙ done f (a .n) e room (l .sum) (l .inv .2 ∙ all-end f (a .n) (lineFits e) (l .k) h) fit s,
+      sym (bytes-end f (a .n) e (l .entries) (l .k) h) ∙ l .inv .4 ∙ ap (λ (d : List ℕ). sets d 0 (encoded (lineBytes e) (linesAt (now (a .words)) (now (a .quantities)) (now (a .weights)) (now (a .costs)) (a .n)))) (c .before .before .before .before .before .before .before .before .before .pre .1)
+          ∙ bytes-whole f (a .n) e room fit,
+    )
 
 pub write-entries-spec : {M : Type 1} → statement M
 write-entries-spec =

@@ -10,7 +10,6 @@ use denote.Ref.{now}
 use borrow.Author.Tests.{not-true, not-false, lt-ltb, le-ltb}
 use lib.ListN.{length, drop}
 use Rattle.wire.specs.Table.{every}
-use Rattle.wire.specs.Layout.{soundIf}
 use Rattle.symbol.specs.Symbol.{wideFieldOk}
 use Rattle.records.proofs.Walk.{every-all, every-stops, every-on, every-end, table-odd, table-even}
 use Rattle.drift.specs.Rows.{rowsLayout}

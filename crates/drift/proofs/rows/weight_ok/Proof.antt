@@ -1,9 +1,8 @@
 -- `rows::weight_ok`: the two comparisons.
 use Rattle.drift.proofs.rows.weight_ok.Statement.{statement}
 use Rattle.drift.proofs.rows.weight_ok.Tie as tie
-use mathlib.Core.Path.{_≡_, sym, ap, _∙_}
-use mathlib.Core.Bool.{Bool, false, cond}
-use lib.Ieee.{binary64, le, neg, ofBits, ofInt}
+use mathlib.Core.Path.{sym, _∙_}
+use lib.Ieee.{neg, ofBits, ofInt}
 use Rattle.drift.proofs.Weights.{weight-tests}
 
 returns : tie.Need-returns

@@ -1,13 +1,12 @@
 -- `whole::minus`: the test says whether the difference is an i64. Signed numbers are read back from their bits.
-use mathlib.Core.Path.{_≡_, sym, ap, subst, _∙_}
+use mathlib.Core.Path.{_≡_, sym, _∙_}
 use mathlib.Core.Bool.{Bool, true, false}
-use lib.IntN.{ℤ, pos, negsuc, _+ℤ_, _-ℤ_, _*ℤ_}
-use lib.Signed.{ltZ, leZ, quotZ}
+use lib.IntN.{ℤ, pos, negsuc, _+ℤ_, _-ℤ_}
+use lib.Signed.{leZ}
 use mir.Syntax.{w64}
 use mir.Val.{SFits, toZ, ofZ}
 use mir.ValLaws.{toZ-ofZ}
 use Rattle.drift.specs.Entry.{fits64}
-use Rattle.drift.specs.declared.whole.Whole.the-variants as Z
 use Rattle.drift.proofs.Integers.{low-fits, high-fits, minus-above, minus-below, fits-of, is-whole, is-over}
 use Rattle.drift.proofs.whole.minus.Statement.{statement}
 use Rattle.drift.proofs.whole.minus.Tie as tie

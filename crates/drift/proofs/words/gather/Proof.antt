@@ -2,7 +2,7 @@
 use Rattle.drift.proofs.words.gather.Statement.{statement}
 use Rattle.drift.proofs.words.gather.Tie as tie
 use borrow.Author.Needs.{needs}
-use Prim.Native.Nat.{ℕ, _+_, _*_, _-_, _≤_, _<_}
+use Prim.Native.Nat.{ℕ, _+_, _*_, _-_, _≤_}
 use mathlib.Core.Path.{_≡_, refl, sym, ap, subst, _∙_}
 use mathlib.Core.List.{List}
 use native.Mathlib.Nat.{mul-le-mul}
@@ -15,7 +15,7 @@ use Rattle.wire.proofs.Records.{length-records}
 use Rattle.records.proofs.Walk.{rest, rest-all, rest-none}
 use Rattle.drift.specs.Rows.{rowOf}
 use Rattle.drift.specs.Symbols.{inserted, sortedWith}
-use Rattle.drift.specs.Code.{key, keyFirst, Rising, wordsOf, Gathered}
+use Rattle.drift.specs.Code.{key, keyFirst, Rising, wordsOf}
 use Rattle.drift.proofs.Ordered.{rising-inserted}
 use Rattle.drift.proofs.Looked.{sorted-step}
 
@@ -57,10 +57,13 @@ loop-again c =
     let l = c .before .before .before .before .before .before .loop in
     let s = now (a .list) in
     let x = le 8 (drop (a .width * l .i) s) in
-    let e : take (c .before .before .insert .result) (c .before .before .insert .last .0) ≡ inserted keyFirst x (take (l .taken) (l .words)) = c .before .before .insert .ensures .1 ∙ ap (λ (y : ℕ). inserted keyFirst y (take (l .taken) (l .words))) (c .before .before .before .u64-at .ensures) in
-    (omega arith, omega (arith, c .before .before .insert .ensures .0, l .inv .1), c .before .before .insert .kept .0 ∙ l .inv .2,
-    subst (Rising key) (sym e) (rising-inserted key keyFirst (λ y z. refl) x (take (l .taken) (l .words)) (l .inv .3)),
-    ap (λ (t : List ℕ). sortedWith keyFirst t (wordsOf (rest rowOf (a .width) (a .count) s (l .i + 1)))) e ∙ sym (sorted-step (a .width) (a .count) s (l .i) (c .before .before .before .before .before .loop-test .taken) (take (l .taken) (l .words))) ∙ l .inv .4)
+    let e : take (c .before .before .insert .result) (c .before .before .insert .last .0) ≡ inserted keyFirst x (take (l .taken) (l .words)) = c .before .before .insert .ensures .1 ∙ ap (λ (y : ℕ). inserted keyFirst y (take (l .taken) (l .words))) (c .before .before .before .u64-at .ensures) in (
+      omega arith,
+      omega (arith, c .before .before .insert .ensures .0, l .inv .1),
+      c .before .before .insert .kept .0 ∙ l .inv .2,
+      subst (Rising key) (sym e) (rising-inserted key keyFirst (λ y z. refl) x (take (l .taken) (l .words)) (l .inv .3)),
+      ap (λ (t : List ℕ). sortedWith keyFirst t (wordsOf (rest rowOf (a .width) (a .count) s (l .i + 1)))) e ∙ sym (sorted-step (a .width) (a .count) s (l .i) (c .before .before .before .before .before .loop-test .taken) (take (l .taken) (l .words))) ∙ l .inv .4,
+    )
 
 same-length : tie.Need-same-length Inv-loop μ-loop
 same-length c = c .before .loop .inv .2

@@ -2,7 +2,6 @@
 use borrow.Author.Needs.{needs}
 use Rattle.drift.proofs.words.has.Statement.{statement}
 use Rattle.drift.proofs.words.has.Tie as tie
-use mathlib.Core.Path.{_≡_}
 use borrow.Author.Tests.{lt-ltb, le-ltb}
 
 mul-key-of : tie.Need-mul-key-of

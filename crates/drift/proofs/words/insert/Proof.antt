@@ -3,7 +3,7 @@ use borrow.Author.Needs.{needs}
 use Rattle.drift.proofs.words.insert.Statement.{statement}
 use Rattle.drift.proofs.words.insert.Tie as tie
 use Prim.Native.Nat.{ℕ, _+_}
-use mathlib.Core.Path.{_≡_, sym, ap, _∙_}
+use mathlib.Core.Path.{sym, ap, _∙_}
 use mathlib.Core.List.{List}
 use native.Mathlib.Omega.{arith}
 use denote.Ref.{now}

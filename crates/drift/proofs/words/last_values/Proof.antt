@@ -4,18 +4,16 @@ use Rattle.drift.proofs.words.last_values.Tie as tie
 use borrow.Author.Needs.{needs}
 use Prim.Native.Nat.{ℕ, _+_, _*_, _-_, _≤_, _<_}
 use mathlib.Core.Path.{_≡_, refl, sym, ap, _∙_}
-use mathlib.Core.Bool.{cond}
 use mathlib.Core.List.{List}
 use native.Mathlib.Nat.{mul-le-mul}
 use native.Mathlib.Omega.{arith}
 use denote.Ref.{now}
-use lib.Dec.{eqb}
 use lib.ListN.{length, drop, getD}
 use Rattle.wire.specs.Le.{le}
 use Rattle.wire.specs.Table.{records}
 use Rattle.records.proofs.Walk.{rest, rest-all, rest-none}
 use Rattle.drift.specs.Rows.{rowOf}
-use Rattle.drift.specs.Code.{key, lastBits, Noted}
+use Rattle.drift.specs.Code.{lastBits}
 use Rattle.drift.proofs.Looked.{last-step}
 
 abbrev Inv-loop : tie.InvT-loop
@@ -62,10 +60,11 @@ loop-again c =
     let l = c .before .before .before .before .before .before .before .before .loop in
     let s = now (a .list) in
     let x : c .before .before .before .before .before .u64-of .result ≡ le 8 (drop (a .width * l .i) s) = c .before .before .before .before .before .u64-of .ensures ∙ ap (le 8) (c .before .before .before .before .before .before .from .ensures) in
-    let b : c .before .before .before .before .u64-at .result ≡ le 8 (drop 16 (drop (a .width * l .i) s)) = c .before .before .before .before .u64-at .ensures ∙ ap (λ (t : List ℕ). le 8 (drop 16 t)) (c .before .before .before .before .before .before .from .ensures) in
-    (c .before .before .note .kept .1 .1 .1 .1 .0 ∙ l .inv .0,
-    λ k h. ap (λ (v : ℕ). lastBits v (getD (now (a .words)) k 0) (rest rowOf (a .width) (a .count) s (l .i + 1)))
-    (c .before .before .note .ensures .each k h ∙ rw (x, b)) ∙ sym (last-step (a .width) (a .count) s (l .i) (c .before .before .before .before .before .before .before .loop-test .taken) (getD (l .values) k 0) (getD (now (a .words)) k 0)) ∙ l .inv .1 k h)
+    let b : c .before .before .before .before .u64-at .result ≡ le 8 (drop 16 (drop (a .width * l .i) s)) = c .before .before .before .before .u64-at .ensures ∙ ap (λ (t : List ℕ). le 8 (drop 16 t)) (c .before .before .before .before .before .before .from .ensures) in (
+      c .before .before .note .kept .1 .1 .1 .1 .0 ∙ l .inv .0,
+      λ k h. ap (λ (v : ℕ). lastBits v (getD (now (a .words)) k 0) (rest rowOf (a .width) (a .count) s (l .i + 1)))
+          (c .before .before .note .ensures .each k h ∙ rw (x, b)) ∙ sym (last-step (a .width) (a .count) s (l .i) (c .before .before .before .before .before .before .before .loop-test .taken) (getD (l .values) k 0) (getD (now (a .words)) k 0)) ∙ l .inv .1 k h,
+    )
 
 same-length : tie.Need-same-length Inv-loop μ-loop
 same-length c = c .before .loop .inv .0

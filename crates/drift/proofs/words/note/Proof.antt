@@ -2,14 +2,14 @@
 use borrow.Author.Needs.{needs}
 use Rattle.drift.proofs.words.note.Statement.{statement}
 use Rattle.drift.proofs.words.note.Tie as tie
-use mathlib.Core.Path.{_≡_, sym, _∙_}
+use mathlib.Core.Path.{sym, _∙_}
 use native.Mathlib.Omega.{arith}
 use lib.Dec.{ltb, eqb}
 use lib.ListN.{getD}
 use borrow.Author.Tests.{ltb-true}
 use denote.Ref.{now}
 use Rattle.symbol.proofs.Text.{and-left}
-use Rattle.drift.specs.Code.{key, Marked}
+use Rattle.drift.specs.Code.{key}
 use Rattle.drift.proofs.Inserted.{note-found, note-absent}
 
 place-requires : tie.Need-place-requires

@@ -2,7 +2,7 @@
 use Rattle.drift.proofs.words.open.Statement.{statement}
 use Rattle.drift.proofs.words.open.Tie as tie
 use borrow.Author.Needs.{needs}
-use Prim.Native.Nat.{ℕ, suc, _-_, _≤_}
+use Prim.Native.Nat.{ℕ, _-_, _≤_}
 use mathlib.Core.Path.{_≡_, refl, ap, _∙_}
 use mathlib.Core.List.{List}
 use native.Mathlib.Omega.{arith}
@@ -44,9 +44,12 @@ loop-again : tie.Need-loop-again Inv-loop μ-loop
 loop-again c =
     let l = c .before .before .loop in
     let a = c .before .before .before .args in
-    let d = now (a .words) in
-    (length-set (l .words) (l .j) _ ∙ l .inv .0, omega arith, omega arith,
-    ap (λ (t : List ℕ). set t (l .j) (getD t (l .j - 1) 0)) (l .inv .3) ∙ open-step d (a .n) (l .j) (omega arith) (omega arith) (omega arith))
+    let d = now (a .words) in (
+      length-set (l .words) (l .j) _ ∙ l .inv .0,
+      omega arith,
+      omega arith,
+      ap (λ (t : List ℕ). set t (l .j) (getD t (l .j - 1) 0)) (l .inv .3) ∙ open-step d (a .n) (l .j) (omega arith) (omega arith) (omega arith),
+    )
 
 same-length : tie.Need-same-length Inv-loop μ-loop
 same-length c = c .before .loop .inv .0

@@ -7,7 +7,7 @@ use mathlib.Core.Path.{_≡_, subst, sym}
 use native.Mathlib.Omega.{arith}
 use denote.Ref.{now}
 use lib.ListN.{getD}
-use Rattle.drift.specs.Code.{key, Place}
+use Rattle.drift.specs.Code.{key}
 
 abbrev Inv-loop : tie.InvT-loop
 Inv-loop words n x k low₀ high₀ low high = (low ≤ high) × (high ≤ n) × (0 < low → key (getD words (low - 1) 0) < key x) × (high < n → key x ≤ key (getD words high 0))

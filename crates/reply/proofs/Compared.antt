@@ -1,7 +1,7 @@
 -- A comparison that is done: how many discrepancies it counts, and what the report's bytes are read as. About no function.
 -- Assumes nothing.
-use Prim.Native.Nat.{ℕ, _*_, _<_, _≤_}
-use mathlib.Core.Path.{_≡_, refl, sym, ap, _∙_}
+use Prim.Native.Nat.{ℕ, _*_, _≤_}
+use mathlib.Core.Path.{_≡_, refl, sym, ap}
 use mathlib.Core.List.{List, map}
 use mathlib.Core.Bool.{Bool, true, false}
 use native.Mathlib.Omega.{arith}
@@ -9,11 +9,11 @@ use borrow.Author.Tests.{leb-true}
 use lib.Dec.{leb}
 use lib.ListN.{length}
 use Rattle.wire.specs.Le.{le}
-use Rattle.wire.specs.Table.{records, encoded, padded}
+use Rattle.wire.specs.Table.{records}
 use Rattle.wire.specs.declared.layout.Layout.{Layout}
 use Rattle.wire.specs.declared.layout.Layout.the-variants as L
 use Rattle.marks.specs.declared.Marks.{Marks}
-use Rattle.compare.specs.Report.{discrepancyKind, discrepancyBytes}
+use Rattle.compare.specs.Report.{discrepancyKind}
 use Rattle.compare.specs.Compare.{lentReport, lentLayout, doneIf, refusedOr, comparison, reportOut, comparisonNumber}
 use Rattle.compare.specs.declared.discrepancy.Discrepancy.{Discrepancy}
 use Rattle.compare.specs.declared.Compared.{Compared}

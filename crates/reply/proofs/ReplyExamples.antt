@@ -59,7 +59,7 @@ examples :
     × (replyText ordersNone (sheetOf []) ≡ lines ("verdict 6 0 6" ∷ "action Restart" ∷ "last DiffComputed 4" ∷ "orders 0" ∷ "positions 0" ∷ "report 0" ∷ []))
     -- two orphans, then the incomplete mark: the order of the passes
     × (replyText stopped (sheetOf (9 ∷ 8 ∷ []))
-        ≡ lines ("verdict 6 0 5" ∷ "action Restart" ∷ "last PositionsIntent 2" ∷ "orders 0" ∷ "positions 0" ∷ "report 3" ∷ "1" ∷ "1" ∷ "6" ∷ []))
+    ≡ lines ("verdict 6 0 5" ∷ "action Restart" ∷ "last PositionsIntent 2" ∷ "orders 0" ∷ "positions 0" ∷ "report 3" ∷ "1" ∷ "1" ∷ "6" ∷ []))
     -- a missing book, whatever the sheet is, and a missing sheet
     × (replyText [] (replicate 65537 0) ≡ lines ("refused 2" ∷ []))
     × (replyText sample [] ≡ lines ("refused 2" ∷ []))

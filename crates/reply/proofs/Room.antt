@@ -1,13 +1,12 @@
 -- A text written at the start of a cleared buffer, and one that does not fit. About no function.
 -- Assumes nothing.
 use Prim.Native.Nat.{ℕ, _≤_, _<_}
-use mathlib.Core.Path.{_≡_, refl, sym, ap, _∙_}
+use mathlib.Core.Path.{_≡_, sym, ap, _∙_}
 use mathlib.Core.List.{List, []}
 use native.Mathlib.Omega.{arith}
 use borrow.Author.Tests.{le-leb, lt-leb}
 use lib.ListN.{length, replicate}
 use lib.Seq.{sets}
-use Rattle.wire.specs.Table.{padded}
 use Rattle.wire.proofs.Records.{padded-none, padded-behind}
 use Rattle.reply.specs.Reply.{replied, replyOut}
 use Rattle.reply.specs.declared.Replied.the-variants.{Done, NoRoom}

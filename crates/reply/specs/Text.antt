@@ -1,7 +1,7 @@
 -- The lines of the desk's reply, in document 01's words.
 -- Assumes nothing.
 use Prim.Native.Nat.{ℕ}
-use mathlib.Core.List.{List, [], _∷_, _++_}
+use mathlib.Core.List.{List, [], _++_}
 use Rattle.wire.specs.Table.{encoded}
 use Rattle.checkpoint.specs.Checkpoint.{ascii}
 use Rattle.checkpoint.specs.declared.Checkpoint.{Checkpoint}

@@ -58,7 +58,9 @@ fn first_refusal(a: Layout, b: Layout) -> Layout
 fn files_layout(book: &[u8], sheet: &[u8]) -> Layout
     ensures { λ r. ⌜ r ≡ filesLayout (now (book .entry)) (now (sheet .entry)) ⌝ }
 {
-    first_refusal(book_layout(book), sheet_layout(sheet))
+    let b = book_layout(book);
+    let s = sheet_layout(sheet);
+    first_refusal(b, s)
 }
 
 // All lines, the report's kinds read from its first `count` records.

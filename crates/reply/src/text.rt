@@ -6,7 +6,7 @@ ghost use lib.Seq.{sets};
 ghost use Rattle.wire.specs.Le.{le};
 ghost use Rattle.wire.specs.Table.{records, encoded};
 ghost use Rattle.audit.specs.Verdict.{verdictNumbers};
-ghost use Rattle.reply.specs.Text.{numbersLine, verdictLine, actionLine, lastLine, recoveredLines, kindLine, reportLines, refusedLine};
+ghost use Rattle.reply.specs.Text.{verdictLine, actionLine, lastLine, recoveredLines, kindLine, reportLines, refusedLine};
 use audit::validate::Verdict;
 use checkpoint::Checkpoint;
 use recovery::action::RecoveryAction;

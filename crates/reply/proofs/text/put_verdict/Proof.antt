@@ -1,11 +1,9 @@
 -- `reply::text::put_verdict`: the three numbers, one behind the other.
 use Prim.Native.Nat.{_+_}
-use mathlib.Core.Path.{_≡_, refl, sym, _∙_}
 use mathlib.Core.List.{_++_}
 use native.Mathlib.Omega.{arith}
 use borrow.Author.Needs.{needs}
 use denote.Ref.{now}
-use Rattle.audit.specs.Verdict.{verdictNumbers}
 use Rattle.checkpoint.specs.Checkpoint.{ascii}
 use Rattle.lines.specs.Lines.{field, line}
 use Rattle.lines.proofs.Behind.{wrote-behind}

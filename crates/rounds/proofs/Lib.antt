@@ -1,1 +1,3 @@
 pub mod Entries
+pub mod Settling
+pub mod Progress

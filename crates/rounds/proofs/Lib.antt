@@ -1,3 +1,4 @@
 pub mod Entries
 pub mod Settling
 pub mod Progress
+pub mod Ending

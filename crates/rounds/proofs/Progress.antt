@@ -173,3 +173,62 @@ reached-all (o ∷ os) zero e =
     by-bool (isIntent o) (λ y. absurd (omega (arith, rw y at e))) (λ y. rw y (reached-all os 0 (rw y at e)))
 reached-all (o ∷ os) (suc n) e =
     by-bool (isIntent o) (λ y. rw y (ap suc (reached-all os n (omega (arith, rw y at e))))) (λ y. rw y (reached-all os (suc n) (rw y at e)))
+
+-- ---- at most one open intent has a symbol, and so has at most one entry
+unfoldable pub tally : Symbol → Symbol → ℕ
+tally y x = countIf (sameSymbol y x) 0
+
+none-left : (o : Order) (os : List Order) → anyWhere (hasSymbol (o .symbol)) os ≡ false → openWeight (tally (o .symbol)) os ≡ 0
+unfolding openWeight anyWhere tally
+none-left o [] h = refl
+none-left o (p ∷ ps) h =
+    let a = or-left (hasSymbol (o .symbol) p) (anyWhere (hasSymbol (o .symbol)) ps) h in
+    let b = or-right (hasSymbol (o .symbol) p) (anyWhere (hasSymbol (o .symbol)) ps) h in
+    let no : sameSymbol (o .symbol) (p .symbol) ≡ false = same-sym (o .symbol) (p .symbol) ∙ a in
+    by-bool (isIntent p) (λ y. rw (y, no) (omega (arith, none-left o ps b))) (λ y. rw y (none-left o ps b))
+
+pub tally-one : (y : Symbol) (os : List Order) → NoRepeat os → openWeight (tally y) os ≤ 1
+unfolding tally
+tally-one y [] d = unfold openWeight in zero-le
+tally-one y (o ∷ os) d =
+    by-bool (isIntent o)
+    (λ i. by-bool (sameSymbol y (o .symbol))
+      (λ e.
+        let q : openWeight (tally y) os ≡ 0 = rw (same-is y (o .symbol) e) (none-left o os (d .0)) in
+        omega (arith, rw e at (weight-open (tally y) o os i)))
+      (λ e. omega (arith, rw e at (weight-open (tally y) o os i), tally-one y os (d .1))))
+    (λ i. omega (arith, weight-shut (tally y) o os i, tally-one y os (d .1)))
+
+count-if : (b : Bool) (n : ℕ) → countIf b n ≡ countIf b 0 + n
+count-if true n = omega arith
+count-if false n = omega arith
+
+pub written-hits : (y : Symbol) {c : Chosen} {text : List ℕ} {n : ℕ} {ys : List Symbol} {es : List Event} → Each Texted ys → Written c text n ys es
+    → countWhere (isEntry y) es ≡ sum (tally y) ys
+unfolding countWhere sum tally
+written-hits y t end = refl
+written-hits y (Of.more x t) (more {y = z} {ys} {es} time first r w) =
+    rw (text-is y z x) (count-if (sameSymbol y z) (countWhere (isEntry y) es) ∙ ap (λ (m : ℕ). countIf (sameSymbol y z) 0 + m) (written-hits y t w))
+
+-- where none is open, the open weigh nothing
+pub weight-none : (w : Symbol → ℕ) (os : List Order) → countWhere isIntent os ≡ 0 → openWeight w os ≡ 0
+unfolding openWeight countWhere
+weight-none w [] h = refl
+weight-none w (o ∷ os) h = by-bool (isIntent o) (λ e. absurd (omega (arith, rw e at h))) (λ e. rw e (weight-none w os (rw e at h)))
+
+-- symbols among the open intents weigh at most what all of them do
+pub among-weight : (w : Symbol → ℕ) {os : List Order} {ys : List Symbol} → Among os ys → sum w ys ≤ openWeight w os
+unfolding sum
+among-weight w stop = zero-le
+among-weight w (pass {o} {os} m) =
+    by-bool (isIntent o) (λ e. omega (arith, weight-open w o os e, among-weight w m)) (λ e. omega (arith, weight-shut w o os e, among-weight w m))
+among-weight w (pick {o} {os} e m) = omega (arith, weight-open w o os e, among-weight w m)
+
+-- an entry's text, and the texts of entries
+abbrev pub textWeight : Chosen → Symbol → ℕ
+textWeight c y = length (entryText c y)
+
+pub texts-length : (c : Chosen) (ys : List Symbol) → length (entryTexts c ys) ≡ sum (textWeight c) ys
+unfolding entryTexts sum
+texts-length c [] = refl
+texts-length c (y ∷ ys) = length-append (entryText c y) (entryTexts c ys) ∙ ap (λ (m : ℕ). length (entryText c y) + m) (texts-length c ys)

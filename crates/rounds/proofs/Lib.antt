@@ -2,3 +2,4 @@ pub mod Entries
 pub mod Settling
 pub mod Progress
 pub mod Ending
+pub mod Stepping

@@ -3,3 +3,4 @@ pub mod Settling
 pub mod Progress
 pub mod Ending
 pub mod Stepping
+pub mod Accepted

@@ -4,3 +4,4 @@ pub mod Progress
 pub mod Ending
 pub mod Stepping
 pub mod Accepted
+pub mod Spelling

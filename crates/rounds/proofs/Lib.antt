@@ -5,3 +5,4 @@ pub mod Ending
 pub mod Stepping
 pub mod Accepted
 pub mod Spelling
+pub mod SoundBook

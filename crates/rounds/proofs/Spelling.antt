@@ -120,26 +120,26 @@ pub record GoodStr (n : ℕ) (a : AsStr) : Type 0 where
   pub fits : StrFits a
   pub within : StrIn n a
 
-abbrev TextBytes : Option (List ℕ) → Type 0
+abbrev pub TextBytes : Option (List ℕ) → Type 0
 TextBytes none = Unit
 TextBytes (some t) = Bytes t
 
-record GoodRow (n : ℕ) (r : Row) : Type 0 where
-  symbol : TextBytes (r .symbol)
-  action : GoodStr n (r .action)
-  amount : SFits w64 (wholeOr (r .amount))
+pub record GoodRow (n : ℕ) (r : Row) : Type 0 where
+  pub symbol : TextBytes (r .symbol)
+  pub action : GoodStr n (r .action)
+  pub amount : SFits w64 (wholeOr (r .amount))
 
-abbrev GoodRows : ℕ → Option (List Row) → Type 0
+abbrev pub GoodRows : ℕ → Option (List Row) → Type 0
 GoodRows n none = Unit
 GoodRows n (some rs) = Each (GoodRow n) rs
 
-record GoodEvent (n : ℕ) (e : Event) : Type 0 where
-  symbol : TextBytes (e .symbol)
-  action : GoodStr n (e .action)
-  client : GoodStr n (e .client)
-  shares : SFits w64 (wholeOr (e .shares))
-  reason : GoodStr n (e .reason)
-  orders : GoodRows n (e .orders)
+pub record GoodEvent (n : ℕ) (e : Event) : Type 0 where
+  pub symbol : TextBytes (e .symbol)
+  pub action : GoodStr n (e .action)
+  pub client : GoodStr n (e .client)
+  pub shares : SFits w64 (wholeOr (e .shares))
+  pub reason : GoodStr n (e .reason)
+  pub orders : GoodRows n (e .orders)
 
 -- ---- the effects keep it
 each-change : {A : Type 0} {P : A → Type 0} (f : A → Bool) (g : A → A) → ((x : A) → P x → P (g x)) → (xs : List A) → Each P xs → Each P (changeFirst f g xs)
@@ -277,7 +277,7 @@ module _ (n : ℕ) (os : List Order) (h : Each (Good n) os) where
       named (K.Is k) =
           by (sameCheckpoint k DiffComputed) (sameCheckpoint k OrderIntent) (sameCheckpoint k OrderFailed) (sameCheckpoint k OrderSubmitted) (sameCheckpoint k OrderFilled)
 
-after-good : (n : ℕ) (es : List Event) (os : List Order) → Each (GoodEvent n) es → Each (Good n) os → Each (Good n) (ordersAfter es os)
+pub after-good : (n : ℕ) (es : List Event) (os : List Order) → Each (GoodEvent n) es → Each (Good n) os → Each (Good n) (ordersAfter es os)
 unfolding ordersAfter
 after-good n [] os Of.none h = h
 after-good n (e ∷ es) os (Of.more g gs) h = after-good n es (ordersStep e os) gs (step-good n os h e g)

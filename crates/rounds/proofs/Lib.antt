@@ -6,3 +6,4 @@ pub mod Stepping
 pub mod Accepted
 pub mod Spelling
 pub mod SoundBook
+pub mod Calls

@@ -1,0 +1,231 @@
+-- The three calls of a round, one by one: what each needs to pass, and what it hands to the next. About no function.
+-- Assumes nothing.
+use Prim.Native.Nat.{ℕ, zero, suc, _+_, _-_, _*_, _^_, _≤_, _<_}
+use mathlib.Core.Path.{_≡_, refl, sym, ap, _∙_, subst}
+use mathlib.Core.List.{List, [], _∷_, _++_}
+use mathlib.Core.Bool.{Bool, true, false, cond, not, _&&_, _||_, true≢false, false≢true}
+use native.Mathlib.Omega.{arith}
+use lib.Dec.{eqb, leb, ltb}
+use lib.IntN.{ℤ, pos}
+use lib.ListN.{length, take, replicate}
+use lib.Seq.{take-at}
+use Rattle.wire.specs.Table.{encoded, padded}
+use Rattle.wire.specs.Layout.{bothOf}
+use Rattle.wire.specs.declared.layout.Layout.{Layout}
+use Rattle.wire.specs.declared.layout.Layout.the-variants as L
+use Rattle.wire.proofs.Records.{Each, length-encoded}
+use Rattle.wire.proofs.Records as Of
+use Rattle.symbol.specs.declared.Symbol.{Symbol}
+use Rattle.book.specs.Layout.{bookLayout, eventCount, rowCount, textLength}
+use Rattle.sheet.specs.Sheet.{sheetLayout, sheetOrders, ordersFailed}
+use Rattle.records.specs.Record.{orderBytes, ordersIn, ordersLayout}
+use Rattle.records.specs.Search.{isIntent, countWhere}
+use Rattle.records.specs.declared.order.Order.{Order}
+use Rattle.records.proofs.Orders.{OrderFits, OrderPasses, order-size, orders-in, orders-sound}
+use Rattle.marks.specs.declared.Marks.{Marks}
+use Rattle.effects.specs.Event.{eventsOf}
+use Rattle.recovery.specs.Action.{actionOf}
+use Rattle.recovery.specs.Recover.{State, firstState, roomy, stateOf, timeLayout, doneIf, refusedOr, recovery, bytesIf, ordersOut}
+use Rattle.recovery.specs.declared.recover.Recovered.{Recovered}
+use Rattle.recovery.specs.declared.recover.Recovery.{Recovery}
+use Rattle.recovery.specs.declared.recover.Recovery.the-variants as Rec
+use Rattle.intents.specs.Intents.{reached, unreached, chosen, addendum, ordersMost, numbersLeft, reconcilesIf, reconciling, addendumBytesIf, addendumOut}
+use Rattle.intents.specs.Intents as Lent
+use Rattle.intents.specs.declared.Reconciled.{Reconciled}
+use Rattle.intents.specs.declared.Reconciling.{Reconciling}
+use Rattle.intents.specs.declared.Reconciling.the-variants as Ask
+use Rattle.join.specs.Join.{joined, joinedLength, tooLarge, joinsIf, joining, joinBytesIf, joinOut}
+use Rattle.join.specs.declared.Joining.{Joining}
+use Rattle.join.specs.declared.Joining.the-variants as Joins
+use Rattle.rounds.specs.Rounds.{Round, Outcome, afterJoin, joinRound, lentOrders, lentAddendum, afterReconciling, reconcileRound, afterRecovery, roundOf, next}
+use Rattle.rounds.specs.Demand3.{recovered, openIntents, done, passes}
+use Rattle.rounds.specs.declared.Rounded.{Rounded}
+use Rattle.rounds.proofs.Settling.{by-bool}
+use Rattle.rounds.proofs.Stepping.{steps-number, orders-apart}
+use Rattle.rounds.proofs.Spelling.{Good, good-passes}
+
+-- ---- a refused round leaves the log as it was
+join-refused : (r : Round) (log b : List ℕ) (v : Joining) → done (afterJoin r log b v .answer) ≡ false → afterJoin r log b v .log ≡ log
+join-refused r log b (Joins.Done n) h = absurd (true≢false h)
+join-refused r log b Joins.Oversize h = refl
+join-refused r log b Joins.Broken h = refl
+join-refused r log b Joins.TooMany h = refl
+join-refused r log b Joins.NoRoom h = refl
+
+reconciling-refused : (r : Round) (log : List ℕ) (x : Recovered) (v : Reconciling) → done (afterReconciling r log x v .answer) ≡ false
+    → afterReconciling r log x v .log ≡ log
+unfolding joinRound
+reconciling-refused r log x (Ask.Done y) h =
+    join-refused r log (lentAddendum r log x y) (joining log (lentAddendum r log x y) (r .k) (r .joined)) h
+reconciling-refused r log x Ask.Oversize h = refl
+reconciling-refused r log x Ask.Broken h = refl
+reconciling-refused r log x Ask.NoNumbers h = refl
+reconciling-refused r log x Ask.NoRoom h = refl
+
+recovery-refused : (r : Round) (log : List ℕ) (v : Recovery) → done (afterRecovery r log v .answer) ≡ false → afterRecovery r log v .log ≡ log
+unfolding reconcileRound
+recovery-refused r log (Rec.Done x) h =
+    reconciling-refused r log x (reconciling (x .marks) (lentOrders r log x) (r .sheet) (r .queries) (r .time) (r .addendum)) h
+recovery-refused r log Rec.Oversize h = refl
+recovery-refused r log Rec.Broken h = refl
+recovery-refused r log Rec.NoRoom h = refl
+
+pub round-refused : (r : Round) (log : List ℕ) → passes r log ≡ false → next r log ≡ log
+unfolding roundOf
+round-refused r log h = recovery-refused r log (recovery log (r .now) (r .orders) (r .positions)) h
+
+-- ---- layouts
+both-sound : (a b : Layout) → bothOf a b ≡ L.Sound → (a ≡ L.Sound) × (b ≡ L.Sound)
+both-sound L.Sound b h = (refl, h)
+both-sound L.Oversize b h = let z : _≡_ {A = ℕ} 0 1 = cc in absurd (omega arith)
+both-sound L.Broken L.Sound h = let z : _≡_ {A = ℕ} 0 1 = cc in absurd (omega arith)
+both-sound L.Broken L.Oversize h = let z : _≡_ {A = ℕ} 0 1 = cc in absurd (omega arith)
+both-sound L.Broken L.Broken h = let z : _≡_ {A = ℕ} 0 1 = cc in absurd (omega arith)
+
+-- what is read from the front of a buffer
+take-padded : (n : ℕ) (s : List ℕ) → take (length s) (padded n s) ≡ s
+unfolding padded
+take-padded n s = take-at s (replicate (n - length s) 0) (length s) refl
+
+-- ---- the first call
+abbrev pub recoveredAt : List ℕ → ℤ → Recovered
+recoveredAt log now =
+    let st = stateOf log now in
+    record { marks = st .marks; orders = length (st .orders); positions = length (st .positions); action = actionOf (st .marks) (st .orders) }
+
+pub record First (r : Round) (log : List ℕ) : Type 0 where
+  pub now : timeLayout (r .now) ≡ L.Sound
+  pub room : roomy (r .orders) (r .positions) (firstState (r .now)) (eventsOf log) ≡ true
+
+done-parts : (l : Layout) (b : Bool) (st : State) (x : Recovered) → refusedOr l (doneIf b st) ≡ Rec.Done x → (l ≡ L.Sound) × (b ≡ true)
+done-parts L.Sound true st x h = (refl, refl)
+done-parts L.Sound false st x h = let z : _≡_ {A = ℕ} 0 1 = cc in absurd (omega arith)
+done-parts L.Oversize b st x h = let z : _≡_ {A = ℕ} 0 1 = cc in absurd (omega arith)
+done-parts L.Broken b st x h = let z : _≡_ {A = ℕ} 0 1 = cc in absurd (omega arith)
+
+record Recovering (v : Recovery) : Type 0 where
+  given : Recovered
+  is : v ≡ Rec.Done given
+
+recovering : (r : Round) (log : List ℕ) (v : Recovery) → done (afterRecovery r log v .answer) ≡ true → Recovering v
+recovering r log (Rec.Done x) h = record { given = x; is = refl }
+recovering r log Rec.Oversize h = absurd (false≢true h)
+recovering r log Rec.Broken h = absurd (false≢true h)
+recovering r log Rec.NoRoom h = absurd (false≢true h)
+
+pub first-passed : (r : Round) (log : List ℕ) → passes r log ≡ true → First r log
+unfolding roundOf recovery
+first-passed r log h =
+    let g = recovering r log (recovery log (r .now) (r .orders) (r .positions)) h in
+    let p =
+        done-parts (bothOf (bookLayout log) (timeLayout (r .now))) (roomy (r .orders) (r .positions) (firstState (r .now)) (eventsOf log))
+        (stateOf log (r .now)) (g .given) (g .is) in
+    record { now = both-sound (bookLayout log) (timeLayout (r .now)) (p .0) .1; room = p .1 }
+
+recovery-is : (r : Round) (log : List ℕ) → bookLayout log ≡ L.Sound → First r log
+    → recovery log (r .now) (r .orders) (r .positions) ≡ Rec.Done (recoveredAt log (r .now))
+unfolding recovery
+recovery-is r log s f = rw (s, f .now, f .room)
+
+pub first-is : (r : Round) (log : List ℕ) → bookLayout log ≡ L.Sound → First r log → roundOf r log ≡ reconcileRound r log (recoveredAt log (r .now))
+unfolding roundOf
+first-is r log s f = ap (afterRecovery r log) (recovery-is r log s f)
+
+-- ---- the second call
+-- the symbols of the intents reached, and the addendum of their entries
+abbrev pub roundSymbols : Round → List ℕ → List Symbol
+roundSymbols r log = reached (ordersFailed (r .sheet)) (recovered log .orders) (r .queries)
+
+abbrev pub roundAddendum : Round → List ℕ → List ℕ
+roundAddendum r log = addendum (chosen (sheetOrders (r .sheet))) (r .time) (recovered log .marks .number) (roundSymbols r log)
+
+pub record Second (r : Round) (log : List ℕ) : Type 0 where
+  pub few : leb ordersMost (64 * length (recovered log .orders)) ≡ false
+  pub sheet : sheetLayout (r .sheet) ≡ L.Sound
+  pub time : timeLayout (r .time) ≡ L.Sound
+  pub numbers : numbersLeft (recovered log .marks .number) (openIntents log) ≡ true
+  pub size : tooLarge (length (roundAddendum r log)) (length (roundSymbols r log)) 0 ≡ false
+  pub room : ltb (r .addendum) (length (roundAddendum r log)) ≡ false
+
+-- what it is lent: the marks' number and the orders
+number-apart : (log : List ℕ) (now : ℤ) → stateOf log now .marks .number ≡ recovered log .marks .number
+number-apart log now = steps-number (firstState now) (eventsOf log) ∙ sym (steps-number (firstState (pos 0)) (eventsOf log))
+
+lent-is : (r : Round) (log : List ℕ) → bookLayout log ≡ L.Sound → First r log
+    → lentOrders r log (recoveredAt log (r .now)) ≡ encoded orderBytes (recovered log .orders)
+unfolding ordersOut
+lent-is r log s f =
+    let os = stateOf log (r .now) .orders in
+    let e : encoded orderBytes os ≡ encoded orderBytes (recovered log .orders) = ap (encoded orderBytes) (orders-apart log (r .now)) in
+    ap (λ (v : Recovery). take (64 * length os) (bytesIf v (r .orders) (encoded orderBytes os))) (recovery-is r log s f)
+    ∙ ap (λ (n : ℕ). take n (padded (r .orders) (encoded orderBytes os))) (sym (length-encoded orderBytes 64 order-size os))
+    ∙ take-padded (r .orders) (encoded orderBytes os) ∙ e
+
+each-map : {A : Type 0} {P Q : A → Type 0} (xs : List A) → ((x : A) → P x → Q x) → Each P xs → Each Q xs
+each-map [] f Of.none = Of.none
+each-map (x ∷ xs) f (Of.more p ps) = Of.more (f x p) (each-map xs f ps)
+
+-- the answer, by the length, the layout and the orders of what it is lent, the number and the addendum
+unfoldable answerBy : Round → ℕ → Layout → List Order → ℕ → List ℕ → Reconciling
+unfolding unreached reached countWhere
+answerBy r len l os k a =
+    cond (leb ordersMost len) (reconcilesIf (bothOf (sheetLayout (r .sheet)) L.Broken) true [] 0 0 (r .addendum))
+    (reconcilesIf (bothOf (sheetLayout (r .sheet)) (bothOf l (timeLayout (r .time)))) (numbersLeft k (countWhere isIntent os)) a
+      (length (reached (ordersFailed (r .sheet)) os (r .queries))) (unreached (ordersFailed (r .sheet)) os (r .queries)) (r .addendum))
+
+answer-by : (r : Round) (m : Marks) (d : List ℕ)
+    → reconciling m d (r .sheet) (r .queries) (r .time) (r .addendum)
+    ≡ answerBy r (length d) (ordersLayout d) (ordersIn d) (m .number) (Lent.lentAddendum m d (r .sheet) (r .queries) (r .time))
+unfolding reconciling answerBy
+answer-by r m d = refl
+
+addendum-by : (r : Round) (m : Marks) (d : List ℕ) (k : ℕ) (os : List Order) → m .number ≡ k → ordersIn d ≡ os
+    → Lent.lentAddendum m d (r .sheet) (r .queries) (r .time)
+    ≡ addendum (chosen (sheetOrders (r .sheet))) (r .time) k (reached (ordersFailed (r .sheet)) os (r .queries))
+unfolding Lent.lentAddendum
+addendum-by r m d k os p q =
+    ap (λ (x : List Order). addendum (chosen (sheetOrders (r .sheet))) (r .time) (m .number) (reached (ordersFailed (r .sheet)) x (r .queries))) q
+    ∙ ap (λ (x : ℕ). addendum (chosen (sheetOrders (r .sheet))) (r .time) x (reached (ordersFailed (r .sheet)) os (r .queries))) p
+
+abbrev asked : Round → List ℕ → Reconciling
+asked r log = answerBy r (64 * length (recovered log .orders)) L.Sound (recovered log .orders) (recovered log .marks .number) (roundAddendum r log)
+
+-- taken apart
+record Answered (r : Round) (len : ℕ) (os : List Order) (k : ℕ) (a : List ℕ) (y : Reconciled) : Type 0 where
+  few : leb ordersMost len ≡ false
+  sheet : sheetLayout (r .sheet) ≡ L.Sound
+  time : timeLayout (r .time) ≡ L.Sound
+  numbers : numbersLeft k (countWhere isIntent os) ≡ true
+  size : tooLarge (length a) (length (reached (ordersFailed (r .sheet)) os (r .queries))) 0 ≡ false
+  room : ltb (r .addendum) (length a) ≡ false
+  length : y .length ≡ length a
+
+reconciles-done : (l : Layout) (b : Bool) (a : List ℕ) (n m room : ℕ) (y : Reconciled) → reconcilesIf l b a n m room ≡ Ask.Done y
+    → (l ≡ L.Sound) × (b ≡ true) × (tooLarge (length a) n 0 ≡ false) × (ltb room (length a) ≡ false) × (y .length ≡ length a)
+reconciles-done L.Oversize b a n m room y h = let z : _≡_ {A = ℕ} 0 1 = cc in absurd (omega arith)
+reconciles-done L.Broken b a n m room y h = let z : _≡_ {A = ℕ} 0 1 = cc in absurd (omega arith)
+reconciles-done L.Sound false a n m room y h = let z : _≡_ {A = ℕ} 0 1 = cc in absurd (omega arith)
+reconciles-done L.Sound true a n m room y h = by (tooLarge (length a) n 0) (ltb room (length a)) refl refl h
+  where
+    by : (t u : Bool) → tooLarge (length a) n 0 ≡ t → ltb room (length a) ≡ u
+        → cond t Ask.Oversize (cond u Ask.NoRoom (Ask.Done (record { entries = n; unreached = m; length = length a }))) ≡ Ask.Done y
+        → (L.Sound ≡ L.Sound) × (true ≡ true) × (tooLarge (length a) n 0 ≡ false) × (ltb room (length a) ≡ false) × (y .length ≡ length a)
+    by true u p q h = let z : _≡_ {A = ℕ} 0 1 = cc in absurd (omega arith)
+    by false true p q h = let z : _≡_ {A = ℕ} 0 1 = cc in absurd (omega arith)
+    by false false p q h = let e : record { entries = n; unreached = m; length = length a } ≡ y = cc in (refl, refl, p, q, sym (ap (λ (z : Reconciled). z .length) e))
+
+never-broken : (l : Layout) (y : Reconciled) (n : ℕ) → reconcilesIf (bothOf l L.Broken) true [] 0 0 n ≡ Ask.Done y → ⊥
+never-broken L.Sound y n h = let z : _≡_ {A = ℕ} 0 1 = cc in omega arith
+never-broken L.Oversize y n h = let z : _≡_ {A = ℕ} 0 1 = cc in omega arith
+never-broken L.Broken y n h = let z : _≡_ {A = ℕ} 0 1 = cc in omega arith
+
+answered : (r : Round) (len : ℕ) (os : List Order) (k : ℕ) (a : List ℕ) (y : Reconciled) → answerBy r len L.Sound os k a ≡ Ask.Done y → Answered r len os k a y
+unfolding answerBy
+answered r len os k a y h =
+    by-bool (leb ordersMost len) (λ e. absurd (never-broken (sheetLayout (r .sheet)) y (r .addendum) (rw e at h)))
+    (λ e.
+      let p =
+          reconciles-done (bothOf (sheetLayout (r .sheet)) (timeLayout (r .time))) (numbersLeft k (countWhere isIntent os)) a
+          (length (reached (ordersFailed (r .sheet)) os (r .queries))) (unreached (ordersFailed (r .sheet)) os (r .queries)) (r .addendum) y (rw e at h) in
+      let q = both-sound (sheetLayout (r .sheet)) (timeLayout (r .time)) (p .0) in
+      record { few = e; sheet = q .0; time = q .1; numbers = p .1; size = p .2; room = p .3; length = p .4 })

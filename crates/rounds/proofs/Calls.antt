@@ -229,3 +229,80 @@ answered r len os k a y h =
           (length (reached (ordersFailed (r .sheet)) os (r .queries))) (unreached (ordersFailed (r .sheet)) os (r .queries)) (r .addendum) y (rw e at h) in
       let q = both-sound (sheetLayout (r .sheet)) (timeLayout (r .time)) (p .0) in
       record { few = e; sheet = q .0; time = q .1; numbers = p .1; size = p .2; room = p .3; length = p .4 })
+
+record Reconciles (v : Reconciling) : Type 0 where
+  given : Reconciled
+  is : v ≡ Ask.Done given
+
+reconciles : (r : Round) (log : List ℕ) (x : Recovered) (v : Reconciling) → done (afterReconciling r log x v .answer) ≡ true → Reconciles v
+reconciles r log x (Ask.Done y) h = record { given = y; is = refl }
+reconciles r log x Ask.Oversize h = absurd (false≢true h)
+reconciles r log x Ask.Broken h = absurd (false≢true h)
+reconciles r log x Ask.NoNumbers h = absurd (false≢true h)
+reconciles r log x Ask.NoRoom h = absurd (false≢true h)
+
+module _ (r : Round) (log : List ℕ) (n : ℕ) (s : bookLayout log ≡ L.Sound) (f : First r log) (g : Each (Good n) (recovered log .orders)) where
+  -- the orders that were lent are those recovered
+  orders-back : ordersIn (lentOrders r log (recoveredAt log (r .now))) ≡ recovered log .orders
+  orders-back =
+      ap ordersIn (lent-is r log s f) ∙ orders-in (recovered log .orders) (each-map (recovered log .orders) (λ o q. q .fits) g)
+
+  layout-back : ordersLayout (lentOrders r log (recoveredAt log (r .now))) ≡ L.Sound
+  layout-back = ap ordersLayout (lent-is r log s f) ∙ orders-sound (recovered log .orders) (each-map (recovered log .orders) (good-passes n) g)
+
+  length-back : length (lentOrders r log (recoveredAt log (r .now))) ≡ 64 * length (recovered log .orders)
+  length-back = ap length (lent-is r log s f) ∙ length-encoded orderBytes 64 order-size (recovered log .orders)
+
+  addendum-back : Lent.lentAddendum (stateOf log (r .now) .marks) (lentOrders r log (recoveredAt log (r .now))) (r .sheet) (r .queries) (r .time) ≡ roundAddendum r log
+  addendum-back =
+      addendum-by r (stateOf log (r .now) .marks) (lentOrders r log (recoveredAt log (r .now))) (recovered log .marks .number) (recovered log .orders)
+      (number-apart log (r .now)) orders-back
+
+  asked-is : reconciling (stateOf log (r .now) .marks) (lentOrders r log (recoveredAt log (r .now))) (r .sheet) (r .queries) (r .time) (r .addendum) ≡ asked r log
+  asked-is =
+      let d = lentOrders r log (recoveredAt log (r .now)) in
+      let m = stateOf log (r .now) .marks in
+      let a = Lent.lentAddendum m d (r .sheet) (r .queries) (r .time) in
+      answer-by r m d ∙ ap (λ (x : ℕ). answerBy r x (ordersLayout d) (ordersIn d) (m .number) a) length-back
+      ∙ ap (λ (x : Layout). answerBy r (64 * length (recovered log .orders)) x (ordersIn d) (m .number) a) layout-back
+      ∙ ap (λ (x : List Order). answerBy r (64 * length (recovered log .orders)) L.Sound x (m .number) a) orders-back
+      ∙ ap (λ (x : ℕ). answerBy r (64 * length (recovered log .orders)) L.Sound (recovered log .orders) x a) (number-apart log (r .now))
+      ∙ ap (answerBy r (64 * length (recovered log .orders)) L.Sound (recovered log .orders) (recovered log .marks .number)) addendum-back
+
+  pub second-passed : done (reconcileRound r log (recoveredAt log (r .now)) .answer) ≡ true → Second r log
+  unfolding reconcileRound
+  second-passed h =
+      let d = lentOrders r log (recoveredAt log (r .now)) in
+      let m = stateOf log (r .now) .marks in
+      let v = reconciles r log (recoveredAt log (r .now)) (reconciling m d (r .sheet) (r .queries) (r .time) (r .addendum)) h in
+      let p =
+          answered r (64 * length (recovered log .orders)) (recovered log .orders) (recovered log .marks .number) (roundAddendum r log) (v .given)
+          (sym asked-is ∙ v .is) in
+      record { few = p .few; sheet = p .sheet; time = p .time; numbers = p .numbers; size = p .size; room = p .room }
+
+  -- what it answers where it passes
+  abbrev pub reconciledBy : Reconciled
+  reconciledBy =
+      record {
+        entries = length (roundSymbols r log);
+        unreached = unreached (ordersFailed (r .sheet)) (recovered log .orders) (r .queries);
+        length = length (roundAddendum r log);
+      }
+
+  asked-done : Second r log → asked r log ≡ Ask.Done reconciledBy
+  unfolding answerBy
+  asked-done q = rw (q .few, q .sheet, q .time, q .numbers, q .size, q .room)
+
+  lent-addendum : Second r log → lentAddendum r log (recoveredAt log (r .now)) reconciledBy ≡ roundAddendum r log
+  unfolding addendumOut
+  lent-addendum q =
+      let d = lentOrders r log (recoveredAt log (r .now)) in
+      let m = stateOf log (r .now) .marks in
+      let a = roundAddendum r log in
+      ap (λ (v : Reconciling). take (length a) (addendumBytesIf v (r .addendum) (Lent.lentAddendum m d (r .sheet) (r .queries) (r .time)))) (asked-is ∙ asked-done q)
+      ∙ ap (λ (x : List ℕ). take (length a) (padded (r .addendum) x)) addendum-back ∙ take-padded (r .addendum) a
+
+  pub second-is : Second r log → reconcileRound r log (recoveredAt log (r .now)) ≡ joinRound r log (roundAddendum r log)
+  unfolding reconcileRound
+  second-is q =
+      ap (afterReconciling r log (recoveredAt log (r .now))) (asked-is ∙ asked-done q) ∙ ap (joinRound r log) (lent-addendum q)

@@ -306,3 +306,93 @@ module _ (r : Round) (log : List ℕ) (n : ℕ) (s : bookLayout log ≡ L.Sound)
   unfolding reconcileRound
   second-is q =
       ap (afterReconciling r log (recoveredAt log (r .now))) (asked-is ∙ asked-done q) ∙ ap (joinRound r log) (lent-addendum q)
+
+-- ---- the third call, on a sound log
+pub record Third (r : Round) (log b : List ℕ) : Type 0 where
+  pub sound : bookLayout b ≡ L.Sound
+  pub count : ltb (eventCount b) (r .k) ≡ false
+  pub size : tooLarge (joinedLength log b (r .k)) (eventCount log + r .k) (rowCount log + rowCount b) ≡ false
+  pub room : ltb (r .joined) (joinedLength log b (r .k)) ≡ false
+
+record Joined (v : Joining) : Type 0 where
+  given : ℕ
+  is : v ≡ Joins.Done given
+
+joins : (r : Round) (log b : List ℕ) (v : Joining) → done (afterJoin r log b v .answer) ≡ true → Joined v
+joins r log b (Joins.Done n) h = record { given = n; is = refl }
+joins r log b Joins.Oversize h = absurd (false≢true h)
+joins r log b Joins.Broken h = absurd (false≢true h)
+joins r log b Joins.TooMany h = absurd (false≢true h)
+joins r log b Joins.NoRoom h = absurd (false≢true h)
+
+joins-done : (l : Layout) (a b : List ℕ) (k room n : ℕ) → joinsIf l a b k room ≡ Joins.Done n
+    → (l ≡ L.Sound) × (ltb (eventCount b) k ≡ false) × (tooLarge (joinedLength a b k) (eventCount a + k) (rowCount a + rowCount b) ≡ false)
+    × (ltb room (joinedLength a b k) ≡ false)
+joins-done L.Oversize a b k room n h = let z : _≡_ {A = ℕ} 0 1 = cc in absurd (omega arith)
+joins-done L.Broken a b k room n h = let z : _≡_ {A = ℕ} 0 1 = cc in absurd (omega arith)
+joins-done L.Sound a b k room n h =
+    by (ltb (eventCount b) k) (tooLarge (joinedLength a b k) (eventCount a + k) (rowCount a + rowCount b)) (ltb room (joinedLength a b k)) refl refl refl h
+  where
+    by : (t u v : Bool) → ltb (eventCount b) k ≡ t → tooLarge (joinedLength a b k) (eventCount a + k) (rowCount a + rowCount b) ≡ u
+        → ltb room (joinedLength a b k) ≡ v → cond t Joins.TooMany (cond u Joins.Oversize (cond v Joins.NoRoom (Joins.Done (joinedLength a b k)))) ≡ Joins.Done n
+        → (L.Sound ≡ L.Sound) × (ltb (eventCount b) k ≡ false) × (tooLarge (joinedLength a b k) (eventCount a + k) (rowCount a + rowCount b) ≡ false)
+        × (ltb room (joinedLength a b k) ≡ false)
+    by true u v p q w h = let z : _≡_ {A = ℕ} 0 1 = cc in absurd (omega arith)
+    by false true v p q w h = let z : _≡_ {A = ℕ} 0 1 = cc in absurd (omega arith)
+    by false false true p q w h = let z : _≡_ {A = ℕ} 0 1 = cc in absurd (omega arith)
+    by false false false p q w h = (refl, p, q, w)
+
+pub third-passed : (r : Round) (log b : List ℕ) → bookLayout log ≡ L.Sound → done (joinRound r log b .answer) ≡ true → Third r log b
+unfolding joinRound joining
+third-passed r log b s h =
+    let v = joins r log b (joining log b (r .k) (r .joined)) h in
+    let p = joins-done (bothOf (bookLayout log) (bookLayout b)) log b (r .k) (r .joined) (v .given) (v .is) in
+    record { sound = both-sound (bookLayout log) (bookLayout b) (p .0) .1; count = p .1; size = p .2; room = p .3 }
+
+joining-is : (r : Round) (log b : List ℕ) → bookLayout log ≡ L.Sound → Third r log b → joining log b (r .k) (r .joined) ≡ Joins.Done (joinedLength log b (r .k))
+unfolding joining
+joining-is r log b s t = rw (s, t .sound, t .count, t .size, t .room)
+
+pub third-done : (r : Round) (log b : List ℕ) → bookLayout log ≡ L.Sound → Third r log b → done (joinRound r log b .answer) ≡ true
+unfolding joinRound
+third-done r log b s t = ap (λ (v : Joining). done (afterJoin r log b v .answer)) (joining-is r log b s t)
+
+-- join's result is the next log
+pub third-log : (r : Round) (log b : List ℕ) → bookLayout log ≡ L.Sound → Third r log b → length (joined log b (r .k)) ≡ joinedLength log b (r .k)
+    → joinRound r log b .log ≡ joined log b (r .k)
+unfolding joinRound joinOut
+third-log r log b s t e =
+    ap (λ (v : Joining). afterJoin r log b v .log) (joining-is r log b s t)
+    ∙ ap (λ (v : Joining). take (joinedLength log b (r .k)) (joinBytesIf v (r .joined) (joined log b (r .k)))) (joining-is r log b s t)
+    ∙ ap (λ (n : ℕ). take n (padded (r .joined) (joined log b (r .k)))) (sym e) ∙ take-padded (r .joined) (joined log b (r .k))
+
+-- and the addendum is what was to be joined
+pub third-addendum : (r : Round) (log b : List ℕ) → joinRound r log b .addendum ≡ b
+unfolding joinRound
+third-addendum r log b = by (joining log b (r .k) (r .joined))
+  where
+    by : (v : Joining) → afterJoin r log b v .addendum ≡ b
+    by (Joins.Done n) = refl
+    by Joins.Oversize = refl
+    by Joins.Broken = refl
+    by Joins.TooMany = refl
+    by Joins.NoRoom = refl
+
+-- ---- the whole round
+pub record Passed (r : Round) (log : List ℕ) : Type 0 where
+  pub first : First r log
+  pub second : Second r log
+  pub third : Third r log (roundAddendum r log)
+  pub is : roundOf r log ≡ joinRound r log (roundAddendum r log)
+
+pub stages : (r : Round) (log : List ℕ) (n : ℕ) → bookLayout log ≡ L.Sound → Each (Good n) (recovered log .orders) → First r log → Second r log
+    → roundOf r log ≡ joinRound r log (roundAddendum r log)
+stages r log n s g f q = first-is r log s f ∙ second-is r log n s f g q
+
+pub passed : (r : Round) (log : List ℕ) (n : ℕ) → bookLayout log ≡ L.Sound → Each (Good n) (recovered log .orders) → passes r log ≡ true → Passed r log
+passed r log n s g h =
+    let f = first-passed r log h in
+    let h₂ = sym (ap (λ (o : Outcome). done (o .answer)) (first-is r log s f)) ∙ h in
+    let q = second-passed r log n s f g h₂ in
+    let h₃ = sym (ap (λ (o : Outcome). done (o .answer)) (second-is r log n s f g q)) ∙ h₂ in
+    record { first = f; second = q; third = third-passed r log (roundAddendum r log) s h₃; is = stages r log n s g f q }

@@ -7,3 +7,4 @@ pub mod Accepted
 pub mod Spelling
 pub mod SoundBook
 pub mod Calls
+pub mod Laws

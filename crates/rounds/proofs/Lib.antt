@@ -8,3 +8,4 @@ pub mod Spelling
 pub mod SoundBook
 pub mod Calls
 pub mod Laws
+pub mod Leading

@@ -17,7 +17,7 @@ use Rattle.wire.proofs.Records as Of
 use Rattle.symbol.specs.declared.Symbol.{Symbol}
 use Rattle.book.specs.Layout.{bookLayout, eventCount, rowCount, textLength}
 use Rattle.book.specs.Event.{textOf}
-use Rattle.sheet.specs.Sheet.{sheetOrders}
+use Rattle.sheet.specs.Sheet.{sheetOrders, ordersFailed}
 use Rattle.sheet.specs.declared.BrokerOrderStatus.{BrokerOrderStatus}
 use Rattle.records.specs.Search.{isIntent, countWhere}
 use Rattle.records.specs.declared.order.Order.{Order}
@@ -27,16 +27,16 @@ use Rattle.recovery.specs.Recover.{State, firstState, steps}
 use Rattle.recovery.proofs.Appended.{steps-append}
 use Rattle.intents.specs.Intents.{chosen, reached, addendum, entryTable, entryTexts, ordersMost}
 use Rattle.intents.specs.declared.Chosen.{Chosen}
-use Rattle.join.specs.Join.{joined, joinedLength}
+use Rattle.join.specs.Join.{joined, joinedLength, tooLarge}
 use Rattle.rounds.specs.Rounds.{Round, Outcome, joinRound, roundOf, next, run}
 use Rattle.rounds.specs.Demand3.{recovered, openIntents, NoRepeat, passes, answered, Small, OneList}
 use Rattle.rounds.proofs.Entries.{Texted, entryEvents}
-use Rattle.rounds.proofs.Settling.{by-bool, Written, end, written-more, written-append, written-length, ordersAfter, among-take, among-each}
+use Rattle.rounds.proofs.Settling.{by-bool, Written, end, written-more, written-append, written-length, ordersAfter, Among, among-take, among-each}
 use Rattle.rounds.proofs.Progress.{Prog, prog-refl, prog-more, prog-trans, prog-length, prog-distinct, openWeight, sum, one, weight-count, sum-one, sum-append, sum-take, round-prog, round-weight, reached-among, among-weight, textWeight, texts-length}
 use Rattle.rounds.proofs.Stepping.{steps-orders, timeless, noted, noted-number, steps-marks, entries-positions}
 use Rattle.rounds.proofs.Spelling.{Good, spelt-texted, spelt-len}
 use Rattle.rounds.proofs.SoundBook.{book-length, text-length, events-count, orders-good}
-use Rattle.rounds.proofs.Calls.{round-refused, roundSymbols, roundAddendum, Third, third-log, Passed, passed}
+use Rattle.rounds.proofs.Calls.{round-refused, roundSymbols, roundAddendum, Second, Third, third-log, Passed, passed}
 use Rattle.rounds.proofs.Laws.{Entered, Joins, Laws, entries-written, written-take}
 
 pub record Led (c : Chosen) (x y : List ℕ) : Type 0 where
@@ -82,6 +82,10 @@ led-positions {x} l = ap (λ (st : State). st .positions) (led-state l) ∙ entr
 pub led-total : {c : Chosen} {x y : List ℕ} (l : Led c x y) → length (l .symbols) + openIntents y ≡ openIntents x
 led-total {x} {y} l =
     omega (arith, sum-one (l .symbols), l .weight one, weight-count (recovered x .orders), weight-count (recovered y .orders))
+
+pub led-count : {c : Chosen} {x y : List ℕ} (l : Led c x y) → eventCount y ≡ eventCount x + length (l .symbols)
+led-count {x} {y} l =
+    sym (events-count y) ∙ ap length (l .events) ∙ length-append (eventsOf x) (l .entries) ∙ omega (arith, events-count x, written-length (l .written))
 
 -- ---- no entry, and entries behind entries
 pub led-refl : {c : Chosen} (x : List ℕ) → Bytes x → bookLayout x ≡ L.Sound → Led c x x
@@ -135,3 +139,131 @@ led-trans {c} {x} {y} {z} l m =
       rows = m .rows ∙ l .rows;
       space = led-space l m;
     }
+
+-- ---- a round that passes
+-- an addendum of no entries is the same whatever was chosen
+none-chosen : (c d : Chosen) (time : ℤ) (n : ℕ) (ys : List Symbol) → length ys ≡ 0 → addendum c time n ys ≡ addendum d time n ys
+unfolding addendum entryTable entryTexts
+none-chosen c d time n [] h = refl
+none-chosen c d time n (y ∷ ys) h = let z : suc (length ys) ≡ 0 = h in absurd (omega arith)
+
+module _ (laws : Laws) (broker : List BrokerOrderStatus) (small : Small (chosen broker)) (r : Round) (x : List ℕ) (bx : Bytes x) (sx : bookLayout x ≡ L.Sound) where
+  -- the broker's order is chosen, where a query was answered; else nothing is written
+  pub addendum-same : (answered r x ≡ true → sheetOrders (r .sheet) ≡ broker)
+      → roundAddendum r x ≡ addendum (chosen broker) (r .time) (recovered x .marks .number) (roundSymbols r x)
+  addendum-same one =
+      let ys = roundSymbols r x in
+      let n = recovered x .marks .number in
+      by-bool (answered r x) (λ y. ap (λ (l : List BrokerOrderStatus). addendum (chosen l) (r .time) n ys) (one y))
+      (λ y. none-chosen (chosen (sheetOrders (r .sheet))) (chosen broker) (r .time) n ys (omega (arith, ltb-false 0 (length ys) y)))
+
+  good : Each (Good (textLength x)) (recovered x .orders)
+  good = orders-good x bx sx
+
+  pub orders-texted : Each (λ (o : Order). Texted (o .symbol)) (recovered x .orders)
+  orders-texted = each-map (recovered x .orders) (λ o g. spelt-texted (o .symbol) (g .symbol)) good
+
+  orders-narrow : Each (λ (o : Order). o .symbol .len ≤ 8) (recovered x .orders)
+  orders-narrow = each-map (recovered x .orders) (λ o g. spelt-len (o .symbol) (g .symbol)) good
+
+  -- the symbols reached are among the open intents'
+  pub reached-open : Among (recovered x .orders) (roundSymbols r x)
+  reached-open = reached-among (ordersFailed (r .sheet)) (recovered x .orders) (r .queries)
+
+  pub reached-most : length (roundSymbols r x) ≤ openIntents x
+  reached-most =
+      omega (arith, sum-one (roundSymbols r x), weight-count (recovered x .orders), among-weight one reached-open)
+
+  -- what is joined: the addendum with the broker's choice
+  abbrev pub chosenAddendum : List ℕ
+  chosenAddendum = addendum (chosen broker) (r .time) (recovered x .marks .number) (roundSymbols r x)
+
+  pub entered : (answered r x ≡ true → sheetOrders (r .sheet) ≡ broker) → Second r x
+      → Entered (chosen broker) (r .time) (recovered x .marks .number) (roundSymbols r x)
+  entered one q =
+      let n = ltb-true (recovered x .marks .number + 1 + openIntents x) (2 ^ 64) (q .numbers) in
+      record {
+        small = small;
+        stamp = q .time;
+        texted = among-each {P = Texted} reached-open orders-texted;
+        widths = among-each {P = λ (y : Symbol). y .len ≤ 8} reached-open orders-narrow;
+        numbers = omega (arith, reached-most);
+        size = subst (λ (b : List ℕ). tooLarge (length b) (length (roundSymbols r x)) 0 ≡ false) (addendum-same one) (q .size);
+      }
+
+  pub joins : (answered r x ≡ true → sheetOrders (r .sheet) ≡ broker) → Second r x → Third r x chosenAddendum
+      → Joins (chosen broker) (r .time) (recovered x .marks .number) (roundSymbols r x) x (r .k)
+  joins one q t =
+      let e = entered one q in
+      let k = ltb-false (eventCount chosenAddendum) (r .k) (t .count) in
+      record { bytes = bx; sound = sx; entered = e; count = omega (arith, laws .addCount e); size = t .size }
+
+  -- the log that is joined
+  module _ (d : NoRepeat (recovered x .orders)) (one : answered r x ≡ true → sheetOrders (r .sheet) ≡ broker) (q : Second r x) (t : Third r x chosenAddendum) where
+    j : Joins (chosen broker) (r .time) (recovered x .marks .number) (roundSymbols r x) x (r .k)
+    j = joins one q t
+
+    entries : List Event
+    entries = take (r .k) (entryEvents (chosen broker) (r .time) (suc (recovered x .marks .number)) (textLength x) (roundSymbols r x))
+
+    joined-written : Written (chosen broker) (textOf (joined x chosenAddendum (r .k))) (recovered x .marks .number) (take (r .k) (roundSymbols r x)) entries
+    unfolding entries
+    joined-written =
+        let n = recovered x .marks .number in
+        let c = chosen broker in
+        let w = written-take (r .k) (entries-written c (r .time) n (textOf x) (roundSymbols r x) (j .entered .texted)) in
+        subst
+        (λ (t : List ℕ). Written c t n (take (r .k) (roundSymbols r x)) (take (r .k) (entryEvents c (r .time) (suc n) (textLength x) (roundSymbols r x))))
+        (sym (laws .joinText j))
+        (subst
+        (λ (f : ℕ). Written c (textOf x ++ entryTexts c (roundSymbols r x)) n (take (r .k) (roundSymbols r x)) (take (r .k) (entryEvents c (r .time) (suc n) f (roundSymbols r x))))
+        (text-length x sx) w)
+
+    joined-orders : recovered (joined x chosenAddendum (r .k)) .orders ≡ ordersAfter entries (recovered x .orders)
+    unfolding entries
+    joined-orders =
+        ap (λ (es : List Event). steps (firstState (pos 0)) es .orders) (laws .joinEvents j)
+        ∙ ap (λ (st : State). st .orders) (steps-append (firstState (pos 0)) (eventsOf x) entries)
+        ∙ steps-orders (recovered x) entries
+
+    pub joined-count : eventCount (joined x chosenAddendum (r .k)) ≡ eventCount x + r .k
+    unfolding entries
+    joined-count =
+        let z = joined x chosenAddendum (r .k) in
+        let k = j .count in
+        let n : length entries ≡ r .k = written-length joined-written ∙ length-take (r .k) (roundSymbols r x) ∙ omega arith in
+        sym (events-count z) ∙ ap length (laws .joinEvents j) ∙ length-append (eventsOf x) entries ∙ omega (arith, events-count x)
+
+    joined-rows : rowCount (joined x chosenAddendum (r .k)) ≡ rowCount x
+    joined-rows =
+        let e = j .entered in
+        let s = laws .joinSound j in
+        let z = joined x chosenAddendum (r .k) in
+        let u : textLength z ≡ textLength x + length (entryTexts (chosen broker) (roundSymbols r x)) =
+                sym (text-length z s) ∙ ap length (laws .joinText j) ∙ length-append (textOf x) (entryTexts (chosen broker) (roundSymbols r x))
+                ∙ omega (arith, text-length x sx) in
+        omega (arith, book-length z s, laws .joinLength j, joined-count, laws .addRows e, laws .addText e)
+
+    pub led-join : Led (chosen broker) x (joined x chosenAddendum (r .k))
+    unfolding entries
+    led-join =
+        let m = among-take (r .k) reached-open in
+        record {
+          bytes = laws .joinBytes j;
+          sound = laws .joinSound j;
+          symbols = take (r .k) (roundSymbols r x);
+          entries = entries;
+          texts = entryTexts (chosen broker) (roundSymbols r x);
+          events = laws .joinEvents j;
+          text = laws .joinText j;
+          enough = omega (arith, texts-length (chosen broker) (roundSymbols r x), sum-take (textWeight (chosen broker)) (r .k) (roundSymbols r x));
+          texted = among-each {P = Texted} m orders-texted;
+          written = joined-written;
+          prog = rw joined-orders (round-prog small m orders-texted d joined-written);
+          weight = λ w. rw joined-orders (round-weight w small m orders-texted d joined-written);
+          rows = joined-rows;
+          space =
+            inr
+            (ltb-true (recovered x .marks .number + 1 + openIntents x) (2 ^ 64) (q .numbers),
+              leb-false ordersMost (64 * length (recovered x .orders)) (q .few));
+        }

@@ -9,3 +9,4 @@ pub mod SoundBook
 pub mod Calls
 pub mod Laws
 pub mod Leading
+pub mod Theorem

@@ -1,0 +1,81 @@
+-- Demand 3, of every list of rounds. About no function.
+-- Assumes nothing.
+use Prim.Native.Nat.{ℕ, zero, suc, _+_, _-_, _*_, _^_, _≤_, _<_}
+use mathlib.Core.Path.{_≡_, refl, sym, ap, _∙_, subst}
+use mathlib.Core.Logic.{_⊎_, inl, inr}
+use mathlib.Core.List.{List, [], _∷_, _++_}
+use mathlib.Core.Bool.{Bool, true, false, _&&_, _||_, true≢false, false≢true}
+use native.Mathlib.Omega.{arith}
+use lib.Dec.{ltb, leb}
+use lib.ListN.{length, take, drop, replicate, length-append}
+use lib.Seq.{take-append-seam, drop-append-seam}
+use borrow.Author.Tests.{ltb-true, ltb-false, le-ltb, lt-ltb, lt-leb}
+use Rattle.wire.specs.Layout.{oversizeIf, brokenIf, soundIf}
+use Rattle.wire.specs.declared.layout.Layout.{Layout}
+use Rattle.wire.specs.declared.layout.Layout.the-variants as L
+use Rattle.wire.proofs.Written.{Bytes}
+use Rattle.wire.proofs.Records.{Each}
+use Rattle.symbol.specs.declared.Symbol.{Symbol}
+use Rattle.book.specs.Layout.{bookLayout, eventCount, rowCount, textLength, partsOk}
+use Rattle.book.specs.Event.{textOf}
+use Rattle.sheet.specs.Sheet.{sheetOrders, ordersFailed}
+use Rattle.sheet.specs.declared.BrokerOrderStatus.{BrokerOrderStatus}
+use Rattle.records.specs.Search.{isIntent, countWhere}
+use Rattle.records.specs.declared.order.Order.{Order}
+use Rattle.marks.specs.declared.Marks.{Marks}
+use Rattle.effects.specs.Event.{Event, eventsOf}
+use Rattle.recovery.specs.Recover.{firstState}
+use Rattle.recovery.proofs.BookCounts.{Counts, sound-counts}
+use Rattle.state.specs.State.{sameMarks, sameOrder, samePosition, sameLists, sameState}
+use Rattle.intents.specs.Intents.{chosen, reached, addendum, entryTexts, ordersMost}
+use Rattle.intents.specs.declared.Chosen.{Chosen}
+use Rattle.join.specs.Join.{joined, joinedLength, tooLarge}
+use Rattle.rounds.specs.Rounds.{Round, Outcome, joinRound, roundOf, next, run}
+use Rattle.rounds.specs.Demand3.{recovered, openIntents, NoRepeat, lastNumber, added, isEntry, Follow, done, passes, Whole, answered, Small, OneList, Fewer, Uncut, sameRecovered, Demand3}
+use Rattle.rounds.proofs.Settling.{by-bool, Written, written-length, written-follow}
+use Rattle.rounds.proofs.Progress.{Prog, prog-distinct, openWeight, sum, weight-none, among-weight, reached-all, tally, tally-one, written-hits, textWeight, texts-length}
+use Rattle.rounds.proofs.Ending.{RefsIn, ends-same}
+use Rattle.rounds.proofs.Stepping.{steps-number, timeless, noted, marks-same, positions-self}
+use Rattle.rounds.proofs.Accepted.{book-accepted}
+use Rattle.rounds.proofs.Spelling.{Good}
+use Rattle.rounds.proofs.SoundBook.{book-length, text-length, events-count, orders-good}
+use Rattle.rounds.proofs.Calls.{round-refused, roundSymbols, roundAddendum, First, Second, Third, third-done, third-log, third-addendum, Passed, stages, passed}
+use Rattle.rounds.proofs.Laws.{Entered, Joins, Laws, add-length}
+use Rattle.rounds.proofs.Leading.{Led, each-map, led-marks, led-number, led-positions, led-total, led-count, led-refl, led-trans, chosenAddendum, addendum-same, reached-open, entered, joins, joined-count, led-join}
+
+-- ---- a sound book is not too large
+size-by : (a : Bool) (l : Layout) → oversizeIf a l ≡ L.Sound → a ≡ false
+size-by true l h = let z : _≡_ {A = ℕ} 0 1 = cc in absurd (omega arith)
+size-by false l h = refl
+
+sound-size : (s : List ℕ) → bookLayout s ≡ L.Sound → length s ≤ 1048576
+unfolding bookLayout
+sound-size s h =
+    ltb-false 1048576 (length s)
+    (size-by (ltb 1048576 (length s))
+    (brokenIf (ltb (length s) 24) (oversizeIf (ltb 4096 (eventCount s) || ltb 4096 (rowCount s)) (soundIf (partsOk s)))) h)
+
+not-large : (len events rows : ℕ) → len ≤ 1048576 → events ≤ 4096 → rows ≤ 4096 → tooLarge len events rows ≡ false
+not-large len events rows a b c = rw (le-ltb 1048576 len a, le-ltb 4096 events b, le-ltb 4096 rows c)
+
+-- ---- two ways to the end agree
+ends-read : {c : Chosen} (s t u v w : List ℕ) {os ps qs : List Order} → v ≡ s ++ t → w ≡ s ++ u → Each (RefsIn (length s)) os → Prog c v os ps → Prog c w os qs
+    → countWhere isIntent ps ≡ 0 → countWhere isIntent qs ≡ 0 → sameLists (sameOrder v w) ps qs ≡ true
+ends-read s t u v w p q f a b h k = rw (p, q) (ends-same s t u f (rw p at a) (rw q at b) h k)
+
+and-three : {a b c : Bool} → a ≡ true → b ≡ true → c ≡ true → (a && b && c) ≡ true
+and-three p q r = rw (p, q, r)
+
+pub led-same : {c : Chosen} {x y z : List ℕ} → Bytes x → bookLayout x ≡ L.Sound → Led c x y → Led c x z → openIntents y ≡ 0 → openIntents z ≡ 0
+    → sameRecovered y z ≡ true
+unfolding sameRecovered sameState
+led-same {c} {x} {y} {z} b s l m p q =
+    let e : length (l .symbols) ≡ length (m .symbols) = omega (arith, led-total l, led-total m) in
+    let marks : timeless (recovered y .marks) ≡ timeless (recovered z .marks) =
+            led-marks l ∙ ap (λ (n : ℕ). noted c n (recovered x .marks)) e ∙ sym (led-marks m) in
+    let refs : Each (RefsIn (length (textOf x))) (recovered x .orders) =
+            subst (λ (n : ℕ). Each (RefsIn n) (recovered x .orders)) (sym (text-length x s)) (each-map (recovered x .orders) (λ o g. g .refs) (orders-good x b s)) in
+    let positions : recovered z .positions ≡ recovered y .positions = led-positions m ∙ sym (led-positions l) in
+    and-three (marks-same (recovered y .marks) (recovered z .marks) marks)
+    (ends-read (textOf x) (l .texts) (m .texts) (textOf y) (textOf z) (l .text) (m .text) refs (l .prog) (m .prog) p q)
+    (rw positions (positions-self (recovered y .positions)))

@@ -79,3 +79,76 @@ led-same {c} {x} {y} {z} b s l m p q =
     and-three (marks-same (recovered y .marks) (recovered z .marks) marks)
     (ends-read (textOf x) (l .texts) (m .texts) (textOf y) (textOf z) (l .text) (m .text) refs (l .prog) (m .prog) p q)
     (rw positions (positions-self (recovered y .positions)))
+
+by-zero : (n : ℕ) → (0 < n → ⊥) → n ≡ 0
+by-zero zero h = refl
+by-zero (suc n) h = absurd (h (omega arith))
+
+module _ (laws : Laws) (broker : List BrokerOrderStatus) (small : Small (chosen broker)) where
+  -- ---- one round
+  module _ (r : Round) (x : List ℕ) (bx : Bytes x) (sx : bookLayout x ≡ L.Sound) where
+    -- the addendum with the broker's choice
+    abbrev chosenBy : List ℕ
+    chosenBy = chosenAddendum laws broker small r x bx sx
+
+    -- a round that passes, with the broker's choice
+    record Round3 : Type 0 where
+      second : Second r x
+      third : Third r x chosenBy
+      is : roundOf r x ≡ joinRound r x chosenBy
+
+    round-parts : (answered r x ≡ true → sheetOrders (r .sheet) ≡ broker) → passes r x ≡ true → Round3
+    round-parts one h =
+        let p = passed r x (textLength x) sx (orders-good x bx sx) h in
+        let e = addendum-same laws broker small r x bx sx one in
+        record { second = p .second; third = subst (Third r x) e (p .third); is = p .is ∙ ap (joinRound r x) e }
+
+    next-is : (one : answered r x ≡ true → sheetOrders (r .sheet) ≡ broker) → (p : Round3) → next r x ≡ joined x chosenBy (r .k)
+    next-is one p =
+        ap (λ (o : Outcome). o .log) (p .is)
+        ∙ third-log r x chosenBy sx (p .third) (laws .joinLength (joins laws broker small r x bx sx one (p .second) (p .third)))
+
+    pub led-next : NoRepeat (recovered x .orders) → (passes r x ≡ true → answered r x ≡ true → sheetOrders (r .sheet) ≡ broker)
+        → Led (chosen broker) x (next r x)
+    led-next d one =
+        by-bool (passes r x)
+        (λ h.
+          let p = round-parts (one h) h in
+          subst (Led (chosen broker) x) (sym (next-is (one h) p)) (led-join laws broker small r x bx sx d (one h) (p .second) (p .third)))
+        (λ h. subst (Led (chosen broker) x) (sym (round-refused r x h)) (led-refl x bx sx))
+
+    -- so many events more, where it passes
+    next-count : (one : answered r x ≡ true → sheetOrders (r .sheet) ≡ broker) → NoRepeat (recovered x .orders) → passes r x ≡ true
+        → eventCount (next r x) ≡ eventCount x + r .k
+    next-count one d h =
+        let p = round-parts one h in
+        ap eventCount (next-is one p) ∙ joined-count laws broker small r x bx sx d one (p .second) (p .third)
+
+    -- written whole, it adds an entry for each symbol reached
+    whole-count : (answered r x ≡ true → sheetOrders (r .sheet) ≡ broker) → passes r x ≡ true → Whole r x → r .k ≡ length (roundSymbols r x)
+    whole-count one h w =
+        let p = round-parts one h in
+        w ∙ ap (λ (o : Outcome). eventCount (o .addendum)) (p .is) ∙ ap eventCount (third-addendum r x chosenBy)
+        ∙ laws .addCount (entered laws broker small r x bx sx one (p .second))
+
+    pub round-fewer : NoRepeat (recovered x .orders) → (passes r x ≡ true → answered r x ≡ true → sheetOrders (r .sheet) ≡ broker)
+        → passes r x ≡ true → Whole r x → answered r x ≡ true → openIntents (next r x) < openIntents x
+    round-fewer d one h w a =
+        let l = led-next d one in
+        let n = ltb-true 0 (length (roundSymbols r x)) a in
+        omega (arith, led-total l, led-count l, next-count (one h) d h, whole-count (one h) h w)
+
+  -- ---- every list of rounds
+  led-run : (rs : List Round) (x : List ℕ) → Bytes x → bookLayout x ≡ L.Sound → NoRepeat (recovered x .orders) → OneList broker rs x
+      → Led (chosen broker) x (run rs x)
+  unfolding run
+  led-run [] x bx sx d one = led-refl x bx sx
+  led-run (r ∷ rs) x bx sx d one =
+      let l = led-next r x bx sx d (one .0) in
+      led-trans l (led-run rs (next r x) (l .bytes) (l .sound) (prog-distinct (l .prog) d) (one .1))
+
+  run-fewer : (rs : List Round) (x : List ℕ) → Bytes x → bookLayout x ≡ L.Sound → NoRepeat (recovered x .orders) → OneList broker rs x → Fewer rs x
+  run-fewer [] x bx sx d one = tt
+  run-fewer (r ∷ rs) x bx sx d one =
+      let l = led-next r x bx sx d (one .0) in
+      (round-fewer r x bx sx d (one .0), run-fewer rs (next r x) (l .bytes) (l .sound) (prog-distinct (l .prog) d) (one .1))

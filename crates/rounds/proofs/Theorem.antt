@@ -7,6 +7,7 @@ use mathlib.Core.List.{List, [], _∷_, _++_}
 use mathlib.Core.Bool.{Bool, true, false, _&&_, _||_, true≢false, false≢true}
 use native.Mathlib.Omega.{arith}
 use lib.Dec.{ltb, leb}
+use lib.IntN.{pos}
 use lib.ListN.{length, take, drop, replicate, length-append}
 use lib.Seq.{take-append-seam, drop-append-seam}
 use borrow.Author.Tests.{ltb-true, ltb-false, le-ltb, lt-ltb, lt-leb}
@@ -152,3 +153,95 @@ module _ (laws : Laws) (broker : List BrokerOrderStatus) (small : Small (chosen 
   run-fewer (r ∷ rs) x bx sx d one =
       let l = led-next r x bx sx d (one .0) in
       (round-fewer r x bx sx d (one .0), run-fewer rs (next r x) (l .bytes) (l .sound) (prog-distinct (l .prog) d) (one .1))
+
+  -- ---- the uncut round, once some list of rounds left none open
+  module _ (x : List ℕ) (bx : Bytes x) (sx : bookLayout x ≡ L.Sound) (u : Round) (c : Uncut broker x u) where
+    uncut-reached : length (roundSymbols u x) ≡ openIntents x
+    uncut-reached =
+        ap (λ (b : Bool). length (reached b (recovered x .orders) (u .queries))) (c .up)
+        ∙ ap (λ (qs : List ℕ). length (reached false (recovered x .orders) qs)) (c .zeros) ∙ reached-all (recovered x .orders) (openIntents x) refl
+
+    -- its texts are no longer than those of a list of rounds that closed all
+    uncut-texts : {y : List ℕ} (l : Led (chosen broker) x y) → openIntents y ≡ 0
+        → textLength x + length (entryTexts (chosen broker) (roundSymbols u x)) ≤ textLength y
+    uncut-texts {y} l e =
+        let w = textWeight (chosen broker) in
+        omega (arith, texts-length (chosen broker) (roundSymbols u x), among-weight w (reached-open laws broker small u x bx sx), l .weight w,
+          weight-none w (recovered y .orders) e, l .enough, text-length x sx, text-length y (l .sound), ap length (l .text), length-append (textOf x) (l .texts))
+
+    uncut-ok : {y : List ℕ} → Led (chosen broker) x y → openIntents y ≡ 0 → 0 < openIntents x → passes u x ≡ true
+    uncut-ok {y} l e h =
+        let one : answered u x ≡ true → sheetOrders (u .sheet) ≡ broker = λ a. c .list in
+        let p : (recovered x .marks .number + 1 + openIntents x < 2 ^ 64) × (64 * length (recovered x .orders) < ordersMost) =
+                elim (l .space) [ inl n ↦ absurd (omega (arith, led-total l)) | inr p ↦ p ] in
+        let b = chosenBy u x bx sx in
+        let same = addendum-same laws broker small u x bx sx one in
+        let ne : eventCount y ≡ eventCount x + openIntents x = led-count l ∙ omega (arith, led-total l) in
+        let nb : length b ≡ 24 + 240 * length (roundSymbols u x) + length (entryTexts (chosen broker) (roundSymbols u x)) =
+                add-length (chosen broker) (u .time) (recovered x .marks .number) (roundSymbols u x) in
+        let ny = book-length y (l .sound) in
+        let sy = sound-size y (l .sound) in
+        let ky = sound-counts y (l .sound) in
+        let ty = uncut-texts l e in
+        let nr = uncut-reached in
+        let ry = l .rows in
+        let lb : length b ≤ 1048576 = omega arith in
+        let f : First u x = record { now = c .now; room = c .records } in
+        let q : Second u x =
+                record {
+                  few = lt-leb ordersMost (64 * length (recovered x .orders)) (p .1);
+                  sheet = c .sheet;
+                  time = c .time;
+                  numbers = lt-ltb (recovered x .marks .number + 1 + openIntents x) (2 ^ 64) (p .0);
+                  size =
+                    subst (λ (a : List ℕ). tooLarge (length a) (length (roundSymbols u x)) 0 ≡ false) (sym same)
+                    (not-large (length b) (length (roundSymbols u x)) 0 lb (omega (arith, ky .events)) (omega arith));
+                  room = subst (λ (a : List ℕ). ltb (u .addendum) (length a) ≡ false) (sym same) (le-ltb (u .addendum) (length b) (omega (arith, c .addendum)));
+                } in
+        let is : roundOf u x ≡ joinRound u x b = stages u x (textLength x) sx (orders-good x bx sx) f q ∙ ap (joinRound u x) same in
+        let en = entered laws broker small u x bx sx one q in
+        let k : u .k ≡ eventCount b = c .whole ∙ ap (λ (o : Outcome). eventCount (o .addendum)) is ∙ ap eventCount (third-addendum u x b) in
+        let nc = laws .addCount en in
+        let rc = laws .addRows en in
+        let tc = laws .addText en in
+        let lj : joinedLength x b (u .k) ≤ 1048576 = omega arith in
+        let t : Third u x b =
+                record {
+                  sound = laws .addSound en;
+                  count = le-ltb (eventCount b) (u .k) (omega arith);
+                  size =
+                    not-large (joinedLength x b (u .k)) (eventCount x + u .k) (rowCount x + rowCount b) lj (omega (arith, ky .events)) (omega (arith, ky .rows));
+                  room = le-ltb (u .joined) (joinedLength x b (u .k)) (omega (arith, c .joined));
+                } in
+        ap (λ (o : Outcome). done (o .answer)) is ∙ third-done u x b sx t
+
+    uncut-end : {y : List ℕ} → NoRepeat (recovered x .orders) → Led (chosen broker) x y → openIntents y ≡ 0 → sameRecovered y (next u x) ≡ true
+    uncut-end {y} d l e =
+        let one : answered u x ≡ true → sheetOrders (u .sheet) ≡ broker = λ a. c .list in
+        let m = led-next u x bx sx d (λ h. one) in
+        led-same bx sx l m e
+        (by-bool (passes u x)
+          (λ h. omega (arith, led-total m, led-count m, next-count u x bx sx one d h, whole-count u x bx sx one h (c .whole), uncut-reached))
+          (λ h. ap openIntents (round-refused u x h) ∙ by-zero (openIntents x) (λ z. true≢false (sym (uncut-ok l e z) ∙ h))))
+
+  -- ---- the theorem
+  pub demand3-by : (rs : List Round) (log : List ℕ) → Bytes log → bookLayout log ≡ L.Sound → NoRepeat (recovered log .orders) → OneList broker rs log
+      → Demand3 broker rs log
+  demand3-by rs log b s d one =
+      let l = led-run rs log b s d one in
+      let ad : added log (run rs log) ≡ l .entries =
+              ap (drop (length (eventsOf log))) (l .events) ∙ drop-append-seam (eventsOf log) (l .entries) in
+      let w : Written (chosen broker) (textOf (run rs log)) (lastNumber 0 (eventsOf log)) (l .symbols) (l .entries) =
+              subst (λ (n : ℕ). Written (chosen broker) (textOf (run rs log)) n (l .symbols) (l .entries)) (steps-number (firstState (pos 0)) (eventsOf log)) (l .written) in
+      record {
+        formed = l .sound;
+        kept = ap (take (length (eventsOf log))) (l .events) ∙ take-append-seam (eventsOf log) (l .entries);
+        accepted = λ h. book-accepted log (run rs log) s (l .sound) (l .events) w h;
+        once = λ y.
+          subst (λ (es : List Event). countWhere (isEntry y) es ≤ 1) (sym ad)
+          (omega (arith, written-hits y (l .texted) (l .written), l .weight (tally y), tally-one y (recovered log .orders) d));
+        total = subst (λ (es : List Event). length es + openIntents (run rs log) ≡ openIntents log) (sym ad) (omega (arith, written-length (l .written), led-total l));
+        numbers = subst (Follow (lastNumber 0 (eventsOf log))) (sym ad) (written-follow w);
+        fewer = run-fewer rs log b s d one;
+        ends = λ e u c. uncut-end log b s u c d l e;
+      }

@@ -10,3 +10,4 @@ pub mod Calls
 pub mod Laws
 pub mod Leading
 pub mod Theorem
+pub mod RoundExamples

@@ -1,12 +1,11 @@
 -- Entries numbered after the last checkpoint keep an accepted log accepted. About no function.
 -- Assumes nothing.
-use Prim.Native.Nat.{ℕ, zero, suc, _+_, _*_, _≤_, _<_}
-use mathlib.Core.Path.{_≡_, refl, sym, ap, _∙_, subst}
+use Prim.Native.Nat.{ℕ, zero, suc, _+_, _≤_}
+use mathlib.Core.Path.{_≡_, refl, sym, ap, _∙_}
 use mathlib.Core.List.{List, [], _∷_, _++_, map}
-use mathlib.Core.Bool.{Bool, true, false, cond, _||_}
+use mathlib.Core.Bool.{Bool, true, false}
 use mathlib.Core.Option.{Option, none, some}
 use native.Mathlib.Omega.{arith}
-use lib.Dec.{eqb, ltb}
 use lib.ListN.{drop}
 use borrow.Author.Tests.{lt-ltb, ne-eqb}
 use Rattle.wire.specs.Table.{records}
@@ -24,15 +23,15 @@ use Rattle.checkpoint.specs.declared.Checkpoint.{Checkpoint}
 use Rattle.checkpoint.specs.declared.Checkpoint.the-variants.{RunStarted, PositionsIntent, PositionsResult, DiffComputed, RiskCheckPassed, OrderIntent, OrderSubmitted, OrderFailed, QuotesIntent, QuotesResult, AccountSummaryIntent, AccountSummaryResult, CancelIntent, CancelResult, RunCompleted}
 use Rattle.checkpoint.specs.declared.Named.{Named}
 use Rattle.checkpoint.specs.declared.Named.the-variants as K
-use Rattle.effects.specs.Event.{Row, Event, rowOf, rowsOf, eventOf, eventsOf}
-use Rattle.audit.specs.Verdict.{emptyList, seenOf, seenIn, orElse, firstFault, unless, rises, faultAt, lastAfter, walk, foundBefore, found, placeBehind, place, emptyAfter, lastEmpty, rules, verdictOf, bookVerdict}
+use Rattle.effects.specs.Event.{Row, Event, rowsOf, eventOf, eventsOf}
+use Rattle.audit.specs.Verdict.{emptyList, seenOf, seenIn, orElse, rises, faultAt, lastAfter, walk, foundBefore, found, placeBehind, place, emptyAfter, lastEmpty, rules, verdictOf, bookVerdict}
 use Rattle.audit.specs.declared.validate.Seen.{Seen}
 use Rattle.audit.specs.declared.validate.Verdict.{Verdict}
 use Rattle.audit.specs.declared.validate.Verdict.the-variants as Ver
 use Rattle.intents.specs.declared.Chosen.{Chosen}
 use Rattle.intents.specs.declared.Chosen.the-variants as C
 use Rattle.rounds.specs.Demand3.{numberAfter, lastNumber}
-use Rattle.rounds.proofs.Entries.{entryCheckpoint, entryEvent}
+use Rattle.rounds.proofs.Entries.{entryCheckpoint}
 use Rattle.rounds.proofs.Settling.{Written, end, more}
 
 -- ---- what validation reads of an event as recovery reads it
@@ -100,8 +99,8 @@ walk-join [] ss l i m b h f = f l i b
 walk-join (e ∷ ds) ss l i m b h f =
     let p = or-accepted (faultAt i l (e .checkpoint) (e .number)) (walk (i + 1) (lastAfter l (e .checkpoint) (e .number)) (map seenBy ds)) h in
     let q =
-        walk-join ds ss (lastAfter l (e .checkpoint) (e .number)) (i + 1) (numberAfter (e .checkpoint) (e .number) m)
-        (below-after (e .checkpoint) (e .number) l m b) (p .1) f in
+    walk-join ds ss (lastAfter l (e .checkpoint) (e .number)) (i + 1) (numberAfter (e .checkpoint) (e .number) m)
+    (below-after (e .checkpoint) (e .number) l m b) (p .1) f in
     ap (λ (v : Verdict). orElse v (walk (i + 1) (lastAfter l (e .checkpoint) (e .number)) (map seenBy ds ++ ss))) (p .0) ∙ q
 
 -- ---- the checkpoints of entries are none that the rules ask for
@@ -130,7 +129,7 @@ rules-join : (c : Chosen) (empty : Bool) (cs zs : List Checkpoint) → ((k : Che
 unfolding rules
 rules-join c empty cs zs h =
     let at : (k : Checkpoint) → sameCheckpoint k OrderSubmitted ≡ false → sameCheckpoint k OrderFailed ≡ false → place k (cs ++ zs) ≡ place k cs =
-        λ k p q. place-join k zs (h k (other c k p q)) cs in
+    λ k p q. place-join k zs (h k (other c k p q)) cs in
     by empty (at RunStarted refl refl) (at DiffComputed refl refl) (at PositionsIntent refl refl) (at PositionsResult refl refl)
     (at RiskCheckPassed refl refl) (at OrderIntent refl refl) (at RunCompleted refl refl) (at AccountSummaryIntent refl refl)
     (at AccountSummaryResult refl refl) (at QuotesIntent refl refl) (at QuotesResult refl refl) (at CancelIntent refl refl) (at CancelResult refl refl)
@@ -176,7 +175,7 @@ verdict-join {c} {es} ds w h =
     let a : walk 1 N.Nothing (ss ++ us) ≡ Ver.Accepted = walk-join ds us N.Nothing 1 0 tt (p .0) (λ l j b. walk-written w l j b) in
     let e : lastEmpty false (ss ++ us) ≡ lastEmpty false ss = empty-append false ss us ∙ empty-written (lastEmpty false ss) w in
     let r : rules (lastEmpty false ss) (found ss ++ found us) ≡ rules (lastEmpty false ss) (found ss) =
-        rules-join c (lastEmpty false ss) (found ss) (found us) (λ k q. place-written k q w) in
+    rules-join c (lastEmpty false ss) (found ss) (found us) (λ k q. place-written k q w) in
     rw (map-append seenBy ds es, a, e, found-append ss us, r) (p .1)
 
 pub book-accepted : {c : Chosen} {text : List ℕ} {ys : List Symbol} {es : List Event} (x y : List ℕ) → bookLayout x ≡ L.Sound → bookLayout y ≡ L.Sound

@@ -1,11 +1,11 @@
 -- The three calls of a round, one by one: what each needs to pass, and what it hands to the next. About no function.
 -- Assumes nothing.
-use Prim.Native.Nat.{ℕ, zero, suc, _+_, _-_, _*_, _^_, _≤_, _<_}
-use mathlib.Core.Path.{_≡_, refl, sym, ap, _∙_, subst}
-use mathlib.Core.List.{List, [], _∷_, _++_}
-use mathlib.Core.Bool.{Bool, true, false, cond, not, _&&_, _||_, true≢false, false≢true}
+use Prim.Native.Nat.{ℕ, _+_, _-_, _*_}
+use mathlib.Core.Path.{_≡_, refl, sym, ap, _∙_}
+use mathlib.Core.List.{List, [], _∷_}
+use mathlib.Core.Bool.{Bool, true, false, cond, true≢false, false≢true}
 use native.Mathlib.Omega.{arith}
-use lib.Dec.{eqb, leb, ltb}
+use lib.Dec.{leb, ltb}
 use lib.IntN.{ℤ, pos}
 use lib.ListN.{length, take, replicate}
 use lib.Seq.{take-at}
@@ -16,12 +16,12 @@ use Rattle.wire.specs.declared.layout.Layout.the-variants as L
 use Rattle.wire.proofs.Records.{Each, length-encoded}
 use Rattle.wire.proofs.Records as Of
 use Rattle.symbol.specs.declared.Symbol.{Symbol}
-use Rattle.book.specs.Layout.{bookLayout, eventCount, rowCount, textLength}
+use Rattle.book.specs.Layout.{bookLayout, eventCount, rowCount}
 use Rattle.sheet.specs.Sheet.{sheetLayout, sheetOrders, ordersFailed}
 use Rattle.records.specs.Record.{orderBytes, ordersIn, ordersLayout}
 use Rattle.records.specs.Search.{isIntent, countWhere}
 use Rattle.records.specs.declared.order.Order.{Order}
-use Rattle.records.proofs.Orders.{OrderFits, OrderPasses, order-size, orders-in, orders-sound}
+use Rattle.records.proofs.Orders.{order-size, orders-in, orders-sound}
 use Rattle.marks.specs.declared.Marks.{Marks}
 use Rattle.effects.specs.Event.{eventsOf}
 use Rattle.recovery.specs.Action.{actionOf}
@@ -39,7 +39,6 @@ use Rattle.join.specs.declared.Joining.{Joining}
 use Rattle.join.specs.declared.Joining.the-variants as Joins
 use Rattle.rounds.specs.Rounds.{Round, Outcome, afterJoin, joinRound, lentOrders, lentAddendum, afterReconciling, reconcileRound, afterRecovery, roundOf, next}
 use Rattle.rounds.specs.Demand3.{recovered, openIntents, done, passes}
-use Rattle.rounds.specs.declared.Rounded.{Rounded}
 use Rattle.rounds.proofs.Settling.{by-bool}
 use Rattle.rounds.proofs.Stepping.{steps-number, orders-apart}
 use Rattle.rounds.proofs.Spelling.{Good, good-passes}
@@ -118,8 +117,8 @@ unfolding roundOf recovery
 first-passed r log h =
     let g = recovering r log (recovery log (r .now) (r .orders) (r .positions)) h in
     let p =
-        done-parts (bothOf (bookLayout log) (timeLayout (r .now))) (roomy (r .orders) (r .positions) (firstState (r .now)) (eventsOf log))
-        (stateOf log (r .now)) (g .given) (g .is) in
+    done-parts (bothOf (bookLayout log) (timeLayout (r .now))) (roomy (r .orders) (r .positions) (firstState (r .now)) (eventsOf log))
+    (stateOf log (r .now)) (g .given) (g .is) in
     record { now = both-sound (bookLayout log) (timeLayout (r .now)) (p .0) .1; room = p .1 }
 
 recovery-is : (r : Round) (log : List ℕ) → bookLayout log ≡ L.Sound → First r log
@@ -161,7 +160,7 @@ lent-is r log s f =
     ∙ ap (λ (n : ℕ). take n (padded (r .orders) (encoded orderBytes os))) (sym (length-encoded orderBytes 64 order-size os))
     ∙ take-padded (r .orders) (encoded orderBytes os) ∙ e
 
-each-map : {A : Type 0} {P Q : A → Type 0} (xs : List A) → ((x : A) → P x → Q x) → Each P xs → Each Q xs
+pub each-map : {A : Type 0} {P Q : A → Type 0} (xs : List A) → ((x : A) → P x → Q x) → Each P xs → Each Q xs
 each-map [] f Of.none = Of.none
 each-map (x ∷ xs) f (Of.more p ps) = Of.more (f x p) (each-map xs f ps)
 
@@ -171,7 +170,7 @@ unfolding unreached reached countWhere
 answerBy r len l os k a =
     cond (leb ordersMost len) (reconcilesIf (bothOf (sheetLayout (r .sheet)) L.Broken) true [] 0 0 (r .addendum))
     (reconcilesIf (bothOf (sheetLayout (r .sheet)) (bothOf l (timeLayout (r .time)))) (numbersLeft k (countWhere isIntent os)) a
-      (length (reached (ordersFailed (r .sheet)) os (r .queries))) (unreached (ordersFailed (r .sheet)) os (r .queries)) (r .addendum))
+    (length (reached (ordersFailed (r .sheet)) os (r .queries))) (unreached (ordersFailed (r .sheet)) os (r .queries)) (r .addendum))
 
 answer-by : (r : Round) (m : Marks) (d : List ℕ)
     → reconciling m d (r .sheet) (r .queries) (r .time) (r .addendum)
@@ -224,11 +223,11 @@ unfolding answerBy
 answered r len os k a y h =
     by-bool (leb ordersMost len) (λ e. absurd (never-broken (sheetLayout (r .sheet)) y (r .addendum) (rw e at h)))
     (λ e.
-      let p =
-          reconciles-done (bothOf (sheetLayout (r .sheet)) (timeLayout (r .time))) (numbersLeft k (countWhere isIntent os)) a
-          (length (reached (ordersFailed (r .sheet)) os (r .queries))) (unreached (ordersFailed (r .sheet)) os (r .queries)) (r .addendum) y (rw e at h) in
-      let q = both-sound (sheetLayout (r .sheet)) (timeLayout (r .time)) (p .0) in
-      record { few = e; sheet = q .0; time = q .1; numbers = p .1; size = p .2; room = p .3; length = p .4 })
+    let p =
+    reconciles-done (bothOf (sheetLayout (r .sheet)) (timeLayout (r .time))) (numbersLeft k (countWhere isIntent os)) a
+    (length (reached (ordersFailed (r .sheet)) os (r .queries))) (unreached (ordersFailed (r .sheet)) os (r .queries)) (r .addendum) y (rw e at h) in
+    let q = both-sound (sheetLayout (r .sheet)) (timeLayout (r .time)) (p .0) in
+    record { few = e; sheet = q .0; time = q .1; numbers = p .1; size = p .2; room = p .3; length = p .4 })
 
 record Reconciles (v : Reconciling) : Type 0 where
   given : Reconciled
@@ -276,8 +275,8 @@ module _ (r : Round) (log : List ℕ) (n : ℕ) (s : bookLayout log ≡ L.Sound)
       let m = stateOf log (r .now) .marks in
       let v = reconciles r log (recoveredAt log (r .now)) (reconciling m d (r .sheet) (r .queries) (r .time) (r .addendum)) h in
       let p =
-          answered r (64 * length (recovered log .orders)) (recovered log .orders) (recovered log .marks .number) (roundAddendum r log) (v .given)
-          (sym asked-is ∙ v .is) in
+      answered r (64 * length (recovered log .orders)) (recovered log .orders) (recovered log .marks .number) (roundAddendum r log) (v .given)
+      (sym asked-is ∙ v .is) in
       record { few = p .few; sheet = p .sheet; time = p .time; numbers = p .numbers; size = p .size; room = p .room }
 
   -- what it answers where it passes

@@ -1,16 +1,15 @@
 -- Two ways on from the same orders, each to its own text, that leave none open: the orders are equal as states are compared. About no function.
 -- Assumes nothing.
-use Prim.Native.Nat.{ℕ, zero, suc, _+_, _*_, _^_, _≤_, _<_}
-use mathlib.Core.Path.{_≡_, refl, sym, ap, _∙_, subst}
+use Prim.Native.Nat.{ℕ, _+_, _≤_}
+use mathlib.Core.Path.{_≡_, refl, sym, _∙_}
 use mathlib.Core.List.{List, [], _∷_, _++_}
-use mathlib.Core.Bool.{Bool, true, false, cond, not, _&&_, _||_, true≢false, false≢true}
+use mathlib.Core.Bool.{Bool, true, _&&_}
 use native.Mathlib.Omega.{arith}
-use lib.Dec.{eqb}
 use lib.IntN.{ℤ}
-use lib.ListN.{length, take, drop}
+use lib.ListN.{length}
 use borrow.Author.Tests.{eq-eqb}
 use mir.Syntax.{w64}
-use mir.Val.{ofZ, toZ}
+use mir.Val.{ofZ}
 use Rattle.wire.specs.Le.{sameBytes}
 use Rattle.wire.proofs.Records.{Each}
 use Rattle.wire.proofs.Records as Of
@@ -23,10 +22,9 @@ use Rattle.records.specs.Search.{isIntent, countWhere}
 use Rattle.records.specs.declared.order.Order.{Order}
 use Rattle.effects.specs.Step.{asFailed}
 use Rattle.state.specs.State.{sameInt, readFlags, textOr, sameTexts, sameOrder, sameLists}
-use Rattle.intents.specs.Intents.{reasonText}
 use Rattle.intents.specs.declared.Chosen.{Chosen}
 use Rattle.intents.specs.declared.Chosen.the-variants as C
-use Rattle.rounds.proofs.Settling.{by-bool, settle, Reads, settle-shut, same-refl, text-more}
+use Rattle.rounds.proofs.Settling.{by-bool, settle, Reads, same-refl, text-more}
 use Rattle.rounds.proofs.Progress.{Prog, done, keep, shut}
 
 -- ---- references within a text of n bytes
@@ -51,7 +49,7 @@ str-same s t u (Str.Is r) h = ref-same s t u r h
 str-same s t u Str.Nothing h = refl
 
 -- ---- equal fields make equal orders
-and-both : {a b : Bool} → a ≡ true → b ≡ true → (a && b) ≡ true
+pub and-both : {a b : Bool} → a ≡ true → b ≡ true → (a && b) ≡ true
 and-both p q = rw (p, q)
 
 bytes-self : (t : List ℕ) → sameBytes t t ≡ true

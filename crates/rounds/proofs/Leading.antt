@@ -1,14 +1,13 @@
 -- One log led to another by entries: what a round that passes does, and what any number of rounds do. About no function.
 -- Assumes nothing.
-use Prim.Native.Nat.{ℕ, zero, suc, _+_, _-_, _*_, _^_, _≤_, _<_}
+use Prim.Native.Nat.{ℕ, suc, _+_, _-_, _*_, _^_, _≤_, _<_}
 use mathlib.Core.Path.{_≡_, refl, sym, ap, _∙_, subst}
 use mathlib.Core.Logic.{_⊎_, inl, inr}
 use mathlib.Core.List.{List, [], _∷_, _++_, append-assoc, append-nil}
-use mathlib.Core.Bool.{Bool, true, false, true≢false, false≢true}
+use mathlib.Core.Bool.{true, false}
 use native.Mathlib.Omega.{arith}
-use lib.Dec.{ltb, leb}
 use lib.IntN.{ℤ, pos}
-use lib.ListN.{length, take, drop, length-append, length-take}
+use lib.ListN.{length, take, length-append, length-take}
 use borrow.Author.Tests.{ltb-true, ltb-false, leb-false}
 use Rattle.wire.specs.declared.layout.Layout.the-variants as L
 use Rattle.wire.proofs.Written.{Bytes}
@@ -19,24 +18,23 @@ use Rattle.book.specs.Layout.{bookLayout, eventCount, rowCount, textLength}
 use Rattle.book.specs.Event.{textOf}
 use Rattle.sheet.specs.Sheet.{sheetOrders, ordersFailed}
 use Rattle.sheet.specs.declared.BrokerOrderStatus.{BrokerOrderStatus}
-use Rattle.records.specs.Search.{isIntent, countWhere}
 use Rattle.records.specs.declared.order.Order.{Order}
 use Rattle.marks.specs.declared.Marks.{Marks}
 use Rattle.effects.specs.Event.{Event, eventsOf}
 use Rattle.recovery.specs.Recover.{State, firstState, steps}
 use Rattle.recovery.proofs.Appended.{steps-append}
-use Rattle.intents.specs.Intents.{chosen, reached, addendum, entryTable, entryTexts, ordersMost}
+use Rattle.intents.specs.Intents.{chosen, addendum, entryTable, entryTexts, ordersMost}
 use Rattle.intents.specs.declared.Chosen.{Chosen}
-use Rattle.join.specs.Join.{joined, joinedLength, tooLarge}
-use Rattle.rounds.specs.Rounds.{Round, Outcome, joinRound, roundOf, next, run}
-use Rattle.rounds.specs.Demand3.{recovered, openIntents, NoRepeat, passes, answered, Small, OneList}
+use Rattle.join.specs.Join.{joined, tooLarge}
+use Rattle.rounds.specs.Rounds.{Round}
+use Rattle.rounds.specs.Demand3.{recovered, openIntents, NoRepeat, answered, Small}
 use Rattle.rounds.proofs.Entries.{Texted, entryEvents}
 use Rattle.rounds.proofs.Settling.{by-bool, Written, end, written-more, written-append, written-length, ordersAfter, Among, among-take, among-each}
-use Rattle.rounds.proofs.Progress.{Prog, prog-refl, prog-more, prog-trans, prog-length, prog-distinct, openWeight, sum, one, weight-count, sum-one, sum-append, sum-take, round-prog, round-weight, reached-among, among-weight, textWeight, texts-length}
+use Rattle.rounds.proofs.Progress.{Prog, prog-refl, prog-more, prog-trans, prog-length, openWeight, sum, one, weight-count, sum-one, sum-append, sum-take, round-prog, round-weight, reached-among, among-weight, textWeight, texts-length}
 use Rattle.rounds.proofs.Stepping.{steps-orders, timeless, noted, noted-number, steps-marks, entries-positions}
 use Rattle.rounds.proofs.Spelling.{Good, spelt-texted, spelt-len}
 use Rattle.rounds.proofs.SoundBook.{book-length, text-length, events-count, orders-good}
-use Rattle.rounds.proofs.Calls.{round-refused, roundSymbols, roundAddendum, Second, Third, third-log, Passed, passed}
+use Rattle.rounds.proofs.Calls.{each-map, roundSymbols, roundAddendum, Second, Third}
 use Rattle.rounds.proofs.Laws.{Entered, Joins, Laws, entries-written, written-take}
 
 pub record Led (c : Chosen) (x y : List ℕ) : Type 0 where
@@ -60,10 +58,6 @@ pub record Led (c : Chosen) (x y : List ℕ) : Type 0 where
 each-join : {A : Type 0} {P : A → Type 0} {xs ys : List A} → Each P xs → Each P ys → Each P (xs ++ ys)
 each-join Of.none q = q
 each-join (Of.more p ps) q = Of.more p (each-join ps q)
-
-pub each-map : {A : Type 0} {P Q : A → Type 0} (xs : List A) → ((x : A) → P x → Q x) → Each P xs → Each Q xs
-each-map [] f Of.none = Of.none
-each-map (x ∷ xs) f (Of.more p ps) = Of.more (f x p) (each-map xs f ps)
 
 -- ---- the state that is recovered
 pub led-state : {c : Chosen} {x y : List ℕ} (l : Led c x y) → recovered y ≡ steps (recovered x) (l .entries)
@@ -111,9 +105,13 @@ led-refl x b s =
 led-space : {c : Chosen} {x y z : List ℕ} (l : Led c x y) (m : Led c y z)
     → (length (l .symbols ++ m .symbols) ≡ 0) ⊎ ((recovered x .marks .number + 1 + openIntents x < 2 ^ 64) × (64 * length (recovered x .orders) < ordersMost))
 led-space {x} {y} {z} l m =
-    elim (l .space) [ inr p ↦ inr p | inl e ↦ elim (m .space)
-      [ inl f ↦ inl (omega (arith, length-append (l .symbols) (m .symbols)))
-      | inr q ↦ inr (omega (arith, led-number l, led-total l, q .0), omega (arith, prog-length (l .prog), q .1)) ] ]
+    elim (l .space) [
+      | inr p ↦ inr p
+      | inl e ↦ elim (m .space) [
+        | inl f ↦ inl (omega (arith, length-append (l .symbols) (m .symbols)))
+        | inr q ↦ inr (omega (arith, led-number l, led-total l, q .0), omega (arith, prog-length (l .prog), q .1))
+      ]
+    ]
 
 pub led-trans : {c : Chosen} {x y z : List ℕ} → Led c x y → Led c y z → Led c x z
 led-trans {c} {x} {y} {z} l m =
@@ -127,14 +125,14 @@ led-trans {c} {x} {y} {z} l m =
       events = m .events ∙ ap (λ (v : List Event). v ++ m .entries) (l .events) ∙ append-assoc (eventsOf x) (l .entries) (m .entries);
       text = m .text ∙ ap (λ (v : List ℕ). v ++ m .texts) (l .text) ∙ append-assoc (textOf x) (l .texts) (m .texts);
       enough =
-        omega (arith, sum-append (textWeight c) (l .symbols) (m .symbols), l .enough, m .enough, length-append (l .texts) (m .texts));
+          omega (arith, sum-append (textWeight c) (l .symbols) (m .symbols), l .enough, m .enough, length-append (l .texts) (m .texts));
       texted = each-join (l .texted) (m .texted);
       written =
-        written-append
-        (subst (λ (t : List ℕ). Written c t (recovered x .marks .number) (l .symbols) (l .entries)) (sym e) (written-more (m .texts) (l .written)))
-        (led-number l) (m .written);
+          written-append
+          (subst (λ (t : List ℕ). Written c t (recovered x .marks .number) (l .symbols) (l .entries)) (sym e) (written-more (m .texts) (l .written)))
+          (led-number l) (m .written);
       prog =
-        prog-trans (subst (λ (t : List ℕ). Prog c t (recovered x .orders) (recovered y .orders)) (sym e) (prog-more (m .texts) (l .prog))) (m .prog);
+          prog-trans (subst (λ (t : List ℕ). Prog c t (recovered x .orders) (recovered y .orders)) (sym e) (prog-more (m .texts) (l .prog))) (m .prog);
       weight = λ w. omega (arith, sum-append w (l .symbols) (m .symbols), l .weight w, m .weight w);
       rows = m .rows ∙ l .rows;
       space = led-space l m;
@@ -240,8 +238,8 @@ module _ (laws : Laws) (broker : List BrokerOrderStatus) (small : Small (chosen 
         let s = laws .joinSound j in
         let z = joined x chosenAddendum (r .k) in
         let u : textLength z ≡ textLength x + length (entryTexts (chosen broker) (roundSymbols r x)) =
-                sym (text-length z s) ∙ ap length (laws .joinText j) ∙ length-append (textOf x) (entryTexts (chosen broker) (roundSymbols r x))
-                ∙ omega (arith, text-length x sx) in
+        sym (text-length z s) ∙ ap length (laws .joinText j) ∙ length-append (textOf x) (entryTexts (chosen broker) (roundSymbols r x))
+        ∙ omega (arith, text-length x sx) in
         omega (arith, book-length z s, laws .joinLength j, joined-count, laws .addRows e, laws .addText e)
 
     pub led-join : Led (chosen broker) x (joined x chosenAddendum (r .k))
@@ -263,7 +261,8 @@ module _ (laws : Laws) (broker : List BrokerOrderStatus) (small : Small (chosen 
           weight = λ w. rw joined-orders (round-weight w small m orders-texted d joined-written);
           rows = joined-rows;
           space =
-            inr
-            (ltb-true (recovered x .marks .number + 1 + openIntents x) (2 ^ 64) (q .numbers),
-              leb-false ordersMost (64 * length (recovered x .orders)) (q .few));
+              inr (
+                ltb-true (recovered x .marks .number + 1 + openIntents x) (2 ^ 64) (q .numbers),
+                leb-false ordersMost (64 * length (recovered x .orders)) (q .few),
+              );
         }

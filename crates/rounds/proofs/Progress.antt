@@ -1,17 +1,15 @@
 -- Progress: each order as it was, or an open intent settled. What it keeps, what the open intents weigh, and where it ends. About no function.
 -- Assumes nothing.
-use Prim.Native.Nat.{ℕ, zero, suc, _+_, _*_, _^_, _≤_, _<_, zero-le}
-use mathlib.Core.Path.{_≡_, refl, sym, ap, _∙_, subst}
+use Prim.Native.Nat.{ℕ, zero, suc, _+_, _≤_, zero-le}
+use mathlib.Core.Path.{_≡_, refl, sym, ap, _∙_}
 use mathlib.Core.List.{List, [], _∷_, _++_}
-use mathlib.Core.Bool.{Bool, true, false, cond, not, _&&_, _||_, true≢false, false≢true}
-use mathlib.Core.Option.{Option, none, some}
+use mathlib.Core.Bool.{Bool, true, false, false≢true}
 use native.Mathlib.Omega.{arith}
-use lib.Dec.{eqb}
 use lib.IntN.{ℤ}
-use lib.ListN.{length, take, drop, replicate, length-append}
+use lib.ListN.{length, take, replicate, length-append}
 use Rattle.wire.proofs.Records.{Each}
 use Rattle.wire.proofs.Records as Of
-use Rattle.symbol.specs.Symbol.{sameSymbol, symbolIs}
+use Rattle.symbol.specs.Symbol.{sameSymbol}
 use Rattle.symbol.specs.declared.Symbol.{Symbol}
 use Rattle.cell.specs.declared.AsStr.{AsStr}
 use Rattle.records.specs.Search.{isIntent, countWhere, countIf, anyWhere, changeFirst, hasText}
@@ -19,10 +17,9 @@ use Rattle.records.specs.declared.order.Order.{Order}
 use Rattle.effects.specs.Event.{Event}
 use Rattle.intents.specs.Intents.{symbolText, entryName, entryText, entryTexts, query, reconcileOrderIntent, Queried, reachedIf, reached}
 use Rattle.intents.specs.declared.Chosen.{Chosen}
-use Rattle.intents.specs.declared.Chosen.the-variants as C
 use Rattle.rounds.specs.Demand3.{hasSymbol, NoRepeat, isEntry, Small}
 use Rattle.rounds.proofs.Entries.{Texted, entryReason, entryEvent}
-use Rattle.rounds.proofs.Settling.{by-bool, or-left, or-right, settle, Reads, settle-shut, settle-symbol, reads-more, same-sym, same-refl, same-is, text-is, entry-orders, Written, end, more, ordersAfter, skipped, avoid-settled, Among, stop, pass, pick, among-each, among-avoid}
+use Rattle.rounds.proofs.Settling.{by-bool, or-left, or-right, settle, Reads, settle-shut, settle-symbol, reads-more, same-sym, same-refl, same-is, text-is, entry-orders, Written, end, more, ordersAfter, skipped, avoid-settled, Among, stop, pass, pick, among-avoid}
 
 pub data Prog (c : Chosen) (text : List ℕ) : List Order → List Order → Type 0 where
   done : Prog c text [] []
@@ -193,10 +190,10 @@ tally-one y [] d = unfold openWeight in zero-le
 tally-one y (o ∷ os) d =
     by-bool (isIntent o)
     (λ i. by-bool (sameSymbol y (o .symbol))
-      (λ e.
-        let q : openWeight (tally y) os ≡ 0 = rw (same-is y (o .symbol) e) (none-left o os (d .0)) in
-        omega (arith, rw e at (weight-open (tally y) o os i)))
-      (λ e. omega (arith, rw e at (weight-open (tally y) o os i), tally-one y os (d .1))))
+    (λ e.
+    let q : openWeight (tally y) os ≡ 0 = rw (same-is y (o .symbol) e) (none-left o os (d .0)) in
+    omega (arith, rw e at (weight-open (tally y) o os i)))
+    (λ e. omega (arith, rw e at (weight-open (tally y) o os i), tally-one y os (d .1))))
     (λ i. omega (arith, weight-shut (tally y) o os i, tally-one y os (d .1)))
 
 count-if : (b : Bool) (n : ℕ) → countIf b n ≡ countIf b 0 + n

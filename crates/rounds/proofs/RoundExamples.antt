@@ -1,13 +1,13 @@
 -- Rounds on books of bytes, by computation: a log that demand 3 is about, taken to its end with failures and cuts; and logs and a broker that it leaves out,
 -- each for a reason. About no function.
 -- Assumes nothing.
-use Prim.Native.Nat.{ℕ, zero, suc, _+_, _*_, _^_, _≤_, _<_}
+use Prim.Native.Nat.{ℕ, _+_, _^_}
 use mathlib.Core.Path.{_≡_, refl}
 use mathlib.Core.List.{List, [], _∷_, _++_}
-use mathlib.Core.Bool.{Bool, true, false, _&&_}
+use mathlib.Core.Bool.{Bool, true}
 use lib.Dec.{ltb}
 use lib.Ieee.{ofBits}
-use lib.IntN.{ℤ, pos}
+use lib.IntN.{pos}
 use lib.ListN.{length, replicate}
 use borrow.Author.Tests.{ltb-true}
 use Rattle.wire.specs.Le.{le, bytesOf, sameBytes}
@@ -25,11 +25,10 @@ use Rattle.sheet.specs.Sheet as Sheet
 use Rattle.records.specs.Record.{orderBytes, orderOf, orderOk, tableOk}
 use Rattle.records.specs.Search.{anyWhere, countWhere, changeFirst}
 use Rattle.marks.specs.Marks.{marksAt}
-use Rattle.effects.specs.Event.{eventsOf}
 use Rattle.effects.specs.Step.{marksBy, positionsOfRows, intended, ordersAt, positionsAt, ordersBy, positionsBy}
 use Rattle.audit.specs.Verdict.{firstFault, walk, found, place, lastEmpty, rules, verdictOf, bookVerdict}
 use Rattle.audit.specs.declared.validate.Verdict.the-variants as Ver
-use Rattle.audit.proofs.BookBytes.{EventParts, CellParts, part, numbered, numberedWith, eventTable, bookBytes}
+use Rattle.audit.proofs.BookBytes.{EventParts, part, numbered, numberedWith, eventTable, bookBytes}
 use Rattle.recovery.specs.Action.{actionOf}
 use Rattle.recovery.specs.Recover.{steps, roomy, recovery, ordersOut}
 use Rattle.join.specs.Join.{bookOf, each, movedCell, movedRow, movedEvent, joined, joining, joinOut}

@@ -1,10 +1,10 @@
 -- What entries do to a list of orders that repeats no symbol: each order stays as it was, or was an open intent and is settled. About no function.
 -- Assumes nothing.
-use Prim.Native.Nat.{ℕ, zero, suc, _+_, _*_, _^_, _≤_, _<_, zero-le}
+use Prim.Native.Nat.{ℕ, zero, suc, _+_, _^_, _≤_, _<_}
 use mathlib.Core.Path.{_≡_, refl, sym, ap, _∙_, subst}
 use mathlib.Core.List.{List, [], _∷_, _++_}
-use mathlib.Core.Bool.{Bool, true, false, cond, not, _&&_, _||_, true≢false, false≢true}
-use mathlib.Core.Option.{Option, none, some}
+use mathlib.Core.Bool.{Bool, true, false, cond, not, _&&_, _||_, true≢false}
+use mathlib.Core.Option.{none, some}
 use native.Mathlib.Omega.{arith}
 use lib.Dec.{eqb}
 use lib.IntN.{ℤ}
@@ -27,15 +27,15 @@ use Rattle.cell.specs.declared.AsStr.the-variants as Str
 use Rattle.cell.specs.declared.AsI64.{AsI64}
 use Rattle.cell.specs.declared.AsI64.the-variants as I64
 use Rattle.records.specs.Record.{present}
-use Rattle.records.specs.Search.{isIntent, countWhere, countIf, anyWhere, changeFirst, hasText}
+use Rattle.records.specs.Search.{isIntent, anyWhere, changeFirst, hasText}
 use Rattle.records.specs.declared.order.Order.{Order}
 use Rattle.effects.specs.Event.{Event}
 use Rattle.effects.specs.Step.{asSubmitted, asFailed, submittedBy, ordersStep, ordersBy, ordersAt}
-use Rattle.intents.specs.Intents.{symbolText, entryName, entryText, reasonText, entryTexts, cellBytes, idCellBytes, query, reconcileOrderIntent, Queried, reachedIf, reached}
+use Rattle.intents.specs.Intents.{symbolText, entryName, reasonText, cellBytes}
 use Rattle.intents.specs.declared.Chosen.{Chosen}
 use Rattle.intents.specs.declared.Chosen.the-variants as C
-use Rattle.rounds.specs.Demand3.{hasSymbol, NoRepeat, isEntry, Follow, Small}
-use Rattle.rounds.proofs.Entries.{Texted, entryId, entryReason, entryEvent, entryEvents}
+use Rattle.rounds.specs.Demand3.{hasSymbol, Follow, Small}
+use Rattle.rounds.proofs.Entries.{Texted, entryId, entryReason, entryEvent}
 
 pub by-bool {ℓ} : {X : Type ℓ} (b : Bool) → (b ≡ true → X) → (b ≡ false → X) → X
 by-bool true f g = f refl
@@ -197,6 +197,7 @@ unfolding anyWhere
 among-avoid o stop t h = tt
 among-avoid o (pass {o = p} {os} m) (Of.more x t) h = among-avoid o m t (or-right (hasSymbol (o .symbol) p) (anyWhere (hasSymbol (o .symbol)) os) h)
 among-avoid o (pick {o = p} {os} e m) (Of.more x t) h =
-    let q = or-left (hasSymbol (o .symbol) p) (anyWhere (hasSymbol (o .symbol)) os) h in
-    (text-is (o .symbol) (p .symbol) x ∙ same-sym (o .symbol) (p .symbol) ∙ q,
-      among-avoid o m t (or-right (hasSymbol (o .symbol) p) (anyWhere (hasSymbol (o .symbol)) os) h))
+    let q = or-left (hasSymbol (o .symbol) p) (anyWhere (hasSymbol (o .symbol)) os) h in (
+      text-is (o .symbol) (p .symbol) x ∙ same-sym (o .symbol) (p .symbol) ∙ q,
+      among-avoid o m t (or-right (hasSymbol (o .symbol) p) (anyWhere (hasSymbol (o .symbol)) os) h),
+    )

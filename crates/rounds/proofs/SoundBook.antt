@@ -1,18 +1,16 @@
 -- A sound book of bytes: the lengths of its tables, what its cells give, and that every order recovered from it is good. About no function.
 -- Assumes nothing.
 use Prim.Native.Nat.{ℕ, zero, suc, _+_, _-_, _*_, _/_, _%_, _^_, _≤_, _<_}
-use mathlib.Core.Path.{_≡_, refl, sym, ap, _∙_, subst}
-use mathlib.Core.List.{List, [], _∷_, _++_}
-use mathlib.Core.Bool.{Bool, true, false, not, _&&_}
-use mathlib.Core.Option.{Option, none, some}
+use mathlib.Core.Path.{_≡_, refl, _∙_, subst}
+use mathlib.Core.List.{List, [], _∷_}
+use mathlib.Core.Bool.{Bool, true, not, _&&_}
 use native.Mathlib.Nat.{mul-zero, mul-suc, zero-add, suc-add}
 use native.Mathlib.Omega.{arith}
-use lib.Dec.{eqb, ltb}
+use lib.Dec.{eqb}
 use lib.IntN.{pos}
 use lib.ListN.{length, take, drop, length-drop}
 use lib.Seq.{drop-drop}
-use borrow.Author.Tests.{leb-true, eqb-true, ltb-false}
-use mir.Syntax.{w64}
+use borrow.Author.Tests.{leb-true, eqb-true}
 use Rattle.wire.specs.Le.{le}
 use Rattle.wire.specs.Table.{every, records}
 use Rattle.wire.specs.declared.layout.Layout.the-variants as L
@@ -21,19 +19,18 @@ use Rattle.wire.proofs.Written as Byte
 use Rattle.wire.proofs.Records.{Each, length-records}
 use Rattle.wire.proofs.Records as Of
 use Rattle.symbol.proofs.Text.{and-left, and-right, bytes-drop}
-use Rattle.cell.specs.Cell.{cellBy, cellOf, asStr, asArray, textIn}
+use Rattle.cell.specs.Cell.{cellBy, cellOf, asStr, asArray}
 use Rattle.cell.specs.declared.AsStr.{AsStr}
 use Rattle.cell.specs.declared.AsStr.the-variants as Str
 use Rattle.cell.specs.declared.AsArray.{AsArray}
 use Rattle.cell.specs.declared.AsArray.the-variants as A
 use Rattle.book.specs.Layout.{payloadOk, cellOk, rowCellOk, rowOk, eventOk, eventCount, rowCount, textLength, offsetsOk, tablesOk, partsOk, bookLayout}
 use Rattle.book.specs.Event.{eventsIn, rowsIn, textOf, symbolCell, ordersCell}
-use Rattle.effects.specs.Event.{Row, Event, bytesOfText, rowOf, rowsOf, eventOf, eventsOf}
+use Rattle.effects.specs.Event.{bytesOfText, rowOf, rowsOf, eventOf, eventsOf}
 use Rattle.effects.proofs.CellFits.{str-fits, whole-fits}
 use Rattle.recovery.specs.Recover.{firstState}
-use Rattle.recovery.proofs.BookCounts.{every-at, event-cell, Counts, sound-counts}
+use Rattle.recovery.proofs.BookCounts.{every-at, event-cell, sound-counts}
 use Rattle.rounds.specs.Demand3.{recovered}
-use Rattle.rounds.proofs.Settling.{ordersAfter}
 use Rattle.rounds.proofs.Ending.{StrIn}
 use Rattle.rounds.proofs.Stepping.{steps-orders}
 use Rattle.rounds.proofs.Spelling.{Good, GoodStr, TextBytes, GoodRow, GoodRows, GoodEvent, after-good}
@@ -177,7 +174,7 @@ unfolding tablesOk offsetsOk
 book-length s h =
     let n = 24 + 240 * eventCount s + 64 * rowCount s + textLength s in
     let first =
-        eqb (le 4 (drop 4 s)) 24 && eqb (le 4 (drop 12 s)) (24 + 240 * eventCount s) && eqb (le 4 (drop 20 s)) (24 + 240 * eventCount s + 64 * rowCount s) in
+    eqb (le 4 (drop 4 s)) 24 && eqb (le 4 (drop 12 s)) (24 + 240 * eventCount s) && eqb (le 4 (drop 20 s)) (24 + 240 * eventCount s + 64 * rowCount s) in
     eqb-true (length s) n (and-right first (eqb (length s) n) (sound-book s h .tables))
 
 pub text-length : (s : List ℕ) → bookLayout s ≡ L.Sound → length (textOf s) ≡ textLength s

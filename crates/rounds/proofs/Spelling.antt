@@ -1,33 +1,29 @@
 -- Every recovered order of a sound book is within its types, has a symbol that a text spells, and refers to texts of the book. About no function.
 -- Assumes nothing.
-use Prim.Native.Nat.{ℕ, zero, suc, _+_, _-_, _*_, _/_, _%_, _^_, _≤_, _<_}
-use mathlib.Core.Path.{_≡_, refl, sym, ap, _∙_, subst}
+use Prim.Native.Nat.{ℕ, _+_, _-_, _%_, _^_, _≤_, _<_}
+use mathlib.Core.Path.{_≡_, refl, ap, _∙_}
 use mathlib.Core.List.{List, [], _∷_, _++_, map}
-use mathlib.Core.Bool.{Bool, true, false, cond, not, _&&_, _||_}
+use mathlib.Core.Bool.{Bool, true, false, cond}
 use mathlib.Core.Option.{Option, none, some}
-use native.Mathlib.Nat.{mul-zero, mul-suc}
 use native.Mathlib.Omega.{arith}
-use lib.Dec.{eqb, lit<}
-use lib.IntN.{ℤ, pos}
+use lib.Dec.{lit<}
+use lib.IntN.{ℤ}
 use lib.Ieee.Casts.{toSigned-in}
-use lib.ListN.{length, take, drop, replicate, length-drop}
-use lib.Seq.{take-at, drop-drop}
-use borrow.Author.Tests.{leb-true, eqb-true}
+use lib.ListN.{length, take, replicate}
+use lib.Seq.{take-at}
 use mir.Syntax.{w32, w64}
 use mir.Val.{SFits, ofZ}
 use mir.ValLaws.{toZ-fits}
-use Rattle.wire.specs.Le.{le, bytesOf}
-use Rattle.wire.specs.Table.{every, records, padded}
-use Rattle.wire.specs.declared.layout.Layout.the-variants as L
+use Rattle.wire.specs.Le.{le}
+use Rattle.wire.specs.Table.{padded}
 use Rattle.wire.proofs.Written.{Bytes, le-lt}
 use Rattle.wire.proofs.Written as Byte
 use Rattle.wire.proofs.Records.{Each}
 use Rattle.wire.proofs.Records as Of
-use Rattle.symbol.specs.Symbol.{symbolWidth, symbolByte, allOf, parses, symbolOf, parsed, parsedIf, unknownSymbol, fieldOk, fieldBytes}
+use Rattle.symbol.specs.Symbol.{symbolWidth, allOf, parses, symbolOf, parsed, parsedIf, unknownSymbol, fieldOk, fieldBytes}
 use Rattle.symbol.specs.declared.Symbol.{Symbol}
-use Rattle.symbol.proofs.Text.{and-left, and-right, bytes-drop, text-bytes, parses-most}
+use Rattle.symbol.proofs.Text.{text-bytes, parses-most}
 use Rattle.symbol.proofs.Field.{parsed-field}
-use Rattle.cell.specs.Cell.{cellBy, cellOf, asStr, asI64, asF64, asArray, textIn}
 use Rattle.cell.specs.declared.TextRef.{TextRef}
 use Rattle.cell.specs.declared.AsStr.{AsStr}
 use Rattle.cell.specs.declared.AsStr.the-variants as Str
@@ -35,29 +31,21 @@ use Rattle.cell.specs.declared.AsI64.{AsI64}
 use Rattle.cell.specs.declared.AsI64.the-variants as I64
 use Rattle.cell.specs.declared.AsF64.{AsF64}
 use Rattle.cell.specs.declared.AsF64.the-variants as F64
-use Rattle.cell.specs.declared.AsArray.{AsArray}
-use Rattle.cell.specs.declared.AsArray.the-variants as A
-use Rattle.book.specs.Layout.{payloadOk, cellOk, rowCellOk, rowOk, eventOk, eventCount, rowCount, textLength, offsetsOk, tablesOk, partsOk, bookLayout}
-use Rattle.book.specs.Event.{eventsIn, rowsIn, textOf, symbolCell, actionCell, clientCell, sharesCell, reasonCell, ordersCell, rowSymbol, rowAction, rowAmount, rowPrice}
 use Rattle.checkpoint.specs.Checkpoint.{sameCheckpoint}
-use Rattle.checkpoint.specs.declared.Checkpoint.{Checkpoint}
 use Rattle.checkpoint.specs.declared.Checkpoint.the-variants.{DiffComputed, OrderIntent, OrderSubmitted, OrderFailed, OrderFilled}
 use Rattle.checkpoint.specs.declared.Named.{Named}
 use Rattle.checkpoint.specs.declared.Named.the-variants as K
 use Rattle.records.specs.Search.{anyWhere, changeFirst, hasText, hasId}
 use Rattle.records.specs.declared.order.Order.{Order}
-use Rattle.records.proofs.Orders.{OrderFits, RefFits, StrFits, is, nothing, OrderPasses}
-use Rattle.effects.specs.Event.{Row, Event, bytesOfText, rowOf, rowsOf, eventOf, eventsOf}
+use Rattle.records.proofs.Orders.{OrderFits, RefFits, StrFits, nothing, OrderPasses}
+use Rattle.effects.specs.Event.{Row, Event}
 use Rattle.effects.specs.Step.{symbolOr, symbolFrom, refOr, wholeOr, limitOf, limitOr, newOrder, orderOfRow, ordersFrom, withClient, asFailed, asSubmitted, asFilled, intended, intentBy, failedBy, submittedBy, filledBy, ordersAt, ordersBy, ordersStep}
-use Rattle.effects.proofs.CellFits.{str-fits, ref-fits, whole-fits, limit-fits, SymbolFits, new-fits}
+use Rattle.effects.proofs.CellFits.{ref-fits, limit-fits, SymbolFits, new-fits}
 use Rattle.effects.proofs.Held.{each-append, client-fits, failed-fits, filled-fits}
-use Rattle.recovery.proofs.BookCounts.{every-at, event-cell, Counts, sound-counts}
 use Rattle.intents.specs.Intents.{symbolText}
-use Rattle.rounds.specs.Demand3.{recovered}
 use Rattle.rounds.proofs.Entries.{Texted}
 use Rattle.rounds.proofs.Settling.{ordersAfter}
 use Rattle.rounds.proofs.Ending.{RefIn, StrIn, RefsIn}
-use Rattle.rounds.proofs.Stepping.{steps-orders}
 
 -- ---- a symbol that a text spells
 pub record Spelt (y : Symbol) : Type 0 where
@@ -173,16 +161,16 @@ submitted-good n z o g =
     record {
       symbol = g .symbol;
       fits =
-        record {
-          word = g .fits .word;
-          len = g .fits .len;
-          action = g .fits .action;
-          shares = g .fits .shares;
-          limit = g .fits .limit;
-          id = toZ-fits w32 (ofZ w64 z % 2 ^ 32) (record { fits = low });
-          client = g .fits .client;
-          reason = g .fits .reason;
-        };
+          record {
+            word = g .fits .word;
+            len = g .fits .len;
+            action = g .fits .action;
+            shares = g .fits .shares;
+            limit = g .fits .limit;
+            id = toZ-fits w32 (ofZ w64 z % 2 ^ 32) (record { fits = low });
+            client = g .fits .client;
+            reason = g .fits .reason;
+          };
       refs = record { action = g .refs .action; client = g .refs .client; reason = g .refs .reason };
     }
 

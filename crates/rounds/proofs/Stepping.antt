@@ -1,11 +1,10 @@
 -- Recovery of a log and of the entries behind it: orders, positions and marks, each apart from the time that recovery begins with. About no function.
 -- Assumes nothing.
-use Prim.Native.Nat.{ℕ, zero, suc, _+_, _*_, _^_, _≤_, _<_}
-use mathlib.Core.Path.{_≡_, refl, sym, ap, _∙_, subst}
-use mathlib.Core.List.{List, [], _∷_, _++_}
-use mathlib.Core.Bool.{Bool, true, false, cond, not, _&&_, _||_}
+use Prim.Native.Nat.{ℕ, zero, suc, _+_}
+use mathlib.Core.Path.{_≡_, refl, sym, ap, _∙_}
+use mathlib.Core.List.{List, [], _∷_}
+use mathlib.Core.Bool.{Bool, true, false}
 use native.Mathlib.Omega.{arith}
-use lib.Dec.{eqb}
 use lib.IntN.{ℤ, pos}
 use lib.ListN.{length}
 use borrow.Author.Tests.{eq-eqb}
@@ -14,24 +13,24 @@ use mir.Val.{ofZ}
 use Rattle.symbol.specs.declared.Symbol.{Symbol}
 use Rattle.book.specs.declared.event.SequenceNumber.{SequenceNumber}
 use Rattle.book.specs.declared.event.SequenceNumber.the-variants as N
-use Rattle.checkpoint.specs.Checkpoint.{sameCheckpoint, checkpointNumber}
+use Rattle.checkpoint.specs.Checkpoint.{checkpointNumber}
 use Rattle.checkpoint.specs.declared.Checkpoint.{Checkpoint}
 use Rattle.checkpoint.specs.declared.Checkpoint.the-variants.{OrderSubmitted, OrderFailed}
 use Rattle.checkpoint.specs.declared.Named.{Named}
 use Rattle.checkpoint.specs.declared.Named.the-variants as K
-use Rattle.records.specs.declared.order.Order.{Order}
 use Rattle.records.specs.declared.position.Position.{Position}
 use Rattle.marks.specs.Marks.{marksAt}
 use Rattle.marks.specs.declared.Marks.{Marks}
 use Rattle.marks.specs.declared.Pair.{Pair}
 use Rattle.effects.specs.Event.{Event, eventsOf}
-use Rattle.effects.specs.Step.{marksBy, marksStep, ordersStep, positionsAt, positionsBy, positionsStep}
+use Rattle.effects.specs.Step.{marksBy, marksStep, positionsAt, positionsBy, positionsStep}
 use Rattle.recovery.specs.Recover.{State, firstState, step, steps, stateOf}
 use Rattle.state.specs.State.{sameTruth, sameNumber, sameInt, samePair, sameMarks, samePosition, sameLists}
 use Rattle.intents.specs.declared.Chosen.{Chosen}
 use Rattle.intents.specs.declared.Chosen.the-variants as C
 use Rattle.rounds.specs.Demand3.{recovered, numberAfter, lastNumber}
 use Rattle.rounds.proofs.Entries.{entryCheckpoint, entryEvent}
+use Rattle.rounds.proofs.Ending.{and-both}
 use Rattle.rounds.proofs.Settling.{Written, end, more, ordersAfter, same-refl}
 
 -- ---- orders and positions go by themselves
@@ -123,9 +122,6 @@ entries-positions {c} st (more {n} {y} {ys} {es} time first r w) =
     entries-positions (step (entryEvent c time (suc n) first y) st) w ∙ entry-positions c time (suc n) first y (st .positions)
 
 -- ---- marks that agree but for their time, and positions that agree
-and-both : {a b : Bool} → a ≡ true → b ≡ true → (a && b) ≡ true
-and-both p q = rw (p, q)
-
 truth-self : (b : Bool) → sameTruth b b ≡ true
 truth-self true = refl
 truth-self false = refl

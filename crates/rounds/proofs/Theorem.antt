@@ -2,13 +2,13 @@
 -- Assumes nothing.
 use Prim.Native.Nat.{ℕ, zero, suc, _+_, _-_, _*_, _^_, _≤_, _<_}
 use mathlib.Core.Path.{_≡_, refl, sym, ap, _∙_, subst}
-use mathlib.Core.Logic.{_⊎_, inl, inr}
+use mathlib.Core.Logic.{inl, inr}
 use mathlib.Core.List.{List, [], _∷_, _++_}
-use mathlib.Core.Bool.{Bool, true, false, _&&_, _||_, true≢false, false≢true}
+use mathlib.Core.Bool.{Bool, true, false, _||_, true≢false}
 use native.Mathlib.Omega.{arith}
-use lib.Dec.{ltb, leb}
+use lib.Dec.{ltb}
 use lib.IntN.{pos}
-use lib.ListN.{length, take, drop, replicate, length-append}
+use lib.ListN.{length, take, drop, length-append}
 use lib.Seq.{take-append-seam, drop-append-seam}
 use borrow.Author.Tests.{ltb-true, ltb-false, le-ltb, lt-ltb, lt-leb}
 use Rattle.wire.specs.Layout.{oversizeIf, brokenIf, soundIf}
@@ -16,33 +16,30 @@ use Rattle.wire.specs.declared.layout.Layout.{Layout}
 use Rattle.wire.specs.declared.layout.Layout.the-variants as L
 use Rattle.wire.proofs.Written.{Bytes}
 use Rattle.wire.proofs.Records.{Each}
-use Rattle.symbol.specs.declared.Symbol.{Symbol}
 use Rattle.book.specs.Layout.{bookLayout, eventCount, rowCount, textLength, partsOk}
 use Rattle.book.specs.Event.{textOf}
-use Rattle.sheet.specs.Sheet.{sheetOrders, ordersFailed}
+use Rattle.sheet.specs.Sheet.{sheetOrders}
 use Rattle.sheet.specs.declared.BrokerOrderStatus.{BrokerOrderStatus}
 use Rattle.records.specs.Search.{isIntent, countWhere}
 use Rattle.records.specs.declared.order.Order.{Order}
-use Rattle.marks.specs.declared.Marks.{Marks}
 use Rattle.effects.specs.Event.{Event, eventsOf}
 use Rattle.recovery.specs.Recover.{firstState}
-use Rattle.recovery.proofs.BookCounts.{Counts, sound-counts}
-use Rattle.state.specs.State.{sameMarks, sameOrder, samePosition, sameLists, sameState}
+use Rattle.recovery.proofs.BookCounts.{sound-counts}
+use Rattle.state.specs.State.{sameOrder, sameLists, sameState}
 use Rattle.intents.specs.Intents.{chosen, reached, addendum, entryTexts, ordersMost}
 use Rattle.intents.specs.declared.Chosen.{Chosen}
 use Rattle.join.specs.Join.{joined, joinedLength, tooLarge}
 use Rattle.rounds.specs.Rounds.{Round, Outcome, joinRound, roundOf, next, run}
 use Rattle.rounds.specs.Demand3.{recovered, openIntents, NoRepeat, lastNumber, added, isEntry, Follow, done, passes, Whole, answered, Small, OneList, Fewer, Uncut, sameRecovered, Demand3}
 use Rattle.rounds.proofs.Settling.{by-bool, Written, written-length, written-follow}
-use Rattle.rounds.proofs.Progress.{Prog, prog-distinct, openWeight, sum, weight-none, among-weight, reached-all, tally, tally-one, written-hits, textWeight, texts-length}
-use Rattle.rounds.proofs.Ending.{RefsIn, ends-same}
+use Rattle.rounds.proofs.Progress.{Prog, prog-distinct, weight-none, among-weight, reached-all, tally, tally-one, written-hits, textWeight, texts-length}
+use Rattle.rounds.proofs.Ending.{RefsIn, and-both, ends-same}
 use Rattle.rounds.proofs.Stepping.{steps-number, timeless, noted, marks-same, positions-self}
 use Rattle.rounds.proofs.Accepted.{book-accepted}
-use Rattle.rounds.proofs.Spelling.{Good}
-use Rattle.rounds.proofs.SoundBook.{book-length, text-length, events-count, orders-good}
-use Rattle.rounds.proofs.Calls.{round-refused, roundSymbols, roundAddendum, First, Second, Third, third-done, third-log, third-addendum, Passed, stages, passed}
-use Rattle.rounds.proofs.Laws.{Entered, Joins, Laws, add-length}
-use Rattle.rounds.proofs.Leading.{Led, each-map, led-marks, led-number, led-positions, led-total, led-count, led-refl, led-trans, chosenAddendum, addendum-same, reached-open, entered, joins, joined-count, led-join}
+use Rattle.rounds.proofs.SoundBook.{book-length, text-length, orders-good}
+use Rattle.rounds.proofs.Calls.{each-map, round-refused, roundSymbols, First, Second, Third, third-done, third-log, third-addendum, stages, passed}
+use Rattle.rounds.proofs.Laws.{Laws, add-length}
+use Rattle.rounds.proofs.Leading.{Led, led-marks, led-positions, led-total, led-count, led-refl, led-trans, chosenAddendum, addendum-same, reached-open, entered, joins, joined-count, led-join}
 
 -- ---- a sound book is not too large
 size-by : (a : Bool) (l : Layout) → oversizeIf a l ≡ L.Sound → a ≡ false
@@ -64,21 +61,19 @@ ends-read : {c : Chosen} (s t u v w : List ℕ) {os ps qs : List Order} → v �
     → countWhere isIntent ps ≡ 0 → countWhere isIntent qs ≡ 0 → sameLists (sameOrder v w) ps qs ≡ true
 ends-read s t u v w p q f a b h k = rw (p, q) (ends-same s t u f (rw p at a) (rw q at b) h k)
 
-and-three : {a b c : Bool} → a ≡ true → b ≡ true → c ≡ true → (a && b && c) ≡ true
-and-three p q r = rw (p, q, r)
-
 pub led-same : {c : Chosen} {x y z : List ℕ} → Bytes x → bookLayout x ≡ L.Sound → Led c x y → Led c x z → openIntents y ≡ 0 → openIntents z ≡ 0
     → sameRecovered y z ≡ true
 unfolding sameRecovered sameState
 led-same {c} {x} {y} {z} b s l m p q =
     let e : length (l .symbols) ≡ length (m .symbols) = omega (arith, led-total l, led-total m) in
     let marks : timeless (recovered y .marks) ≡ timeless (recovered z .marks) =
-            led-marks l ∙ ap (λ (n : ℕ). noted c n (recovered x .marks)) e ∙ sym (led-marks m) in
+    led-marks l ∙ ap (λ (n : ℕ). noted c n (recovered x .marks)) e ∙ sym (led-marks m) in
     let refs : Each (RefsIn (length (textOf x))) (recovered x .orders) =
-            subst (λ (n : ℕ). Each (RefsIn n) (recovered x .orders)) (sym (text-length x s)) (each-map (recovered x .orders) (λ o g. g .refs) (orders-good x b s)) in
+    subst (λ (n : ℕ). Each (RefsIn n) (recovered x .orders)) (sym (text-length x s)) (each-map (recovered x .orders) (λ o g. g .refs) (orders-good x b s)) in
     let positions : recovered z .positions ≡ recovered y .positions = led-positions m ∙ sym (led-positions l) in
-    and-three (marks-same (recovered y .marks) (recovered z .marks) marks)
-    (ends-read (textOf x) (l .texts) (m .texts) (textOf y) (textOf z) (l .text) (m .text) refs (l .prog) (m .prog) p q)
+    and-both
+    (and-both (marks-same (recovered y .marks) (recovered z .marks) marks)
+    (ends-read (textOf x) (l .texts) (m .texts) (textOf y) (textOf z) (l .text) (m .text) refs (l .prog) (m .prog) p q))
     (rw positions (positions-self (recovered y .positions)))
 
 by-zero : (n : ℕ) → (0 < n → ⊥) → n ≡ 0
@@ -114,8 +109,8 @@ module _ (laws : Laws) (broker : List BrokerOrderStatus) (small : Small (chosen 
     led-next d one =
         by-bool (passes r x)
         (λ h.
-          let p = round-parts (one h) h in
-          subst (Led (chosen broker) x) (sym (next-is (one h) p)) (led-join laws broker small r x bx sx d (one h) (p .second) (p .third)))
+        let p = round-parts (one h) h in
+        subst (Led (chosen broker) x) (sym (next-is (one h) p)) (led-join laws broker small r x bx sx d (one h) (p .second) (p .third)))
         (λ h. subst (Led (chosen broker) x) (sym (round-refused r x h)) (led-refl x bx sx))
 
     -- so many events more, where it passes
@@ -166,19 +161,29 @@ module _ (laws : Laws) (broker : List BrokerOrderStatus) (small : Small (chosen 
         → textLength x + length (entryTexts (chosen broker) (roundSymbols u x)) ≤ textLength y
     uncut-texts {y} l e =
         let w = textWeight (chosen broker) in
-        omega (arith, texts-length (chosen broker) (roundSymbols u x), among-weight w (reached-open laws broker small u x bx sx), l .weight w,
-          weight-none w (recovered y .orders) e, l .enough, text-length x sx, text-length y (l .sound), ap length (l .text), length-append (textOf x) (l .texts))
+        omega (
+          arith,
+          texts-length (chosen broker) (roundSymbols u x),
+          among-weight w (reached-open laws broker small u x bx sx),
+          l .weight w,
+          weight-none w (recovered y .orders) e,
+          l .enough,
+          text-length x sx,
+          text-length y (l .sound),
+          ap length (l .text),
+          length-append (textOf x) (l .texts),
+        )
 
     uncut-ok : {y : List ℕ} → Led (chosen broker) x y → openIntents y ≡ 0 → 0 < openIntents x → passes u x ≡ true
     uncut-ok {y} l e h =
         let one : answered u x ≡ true → sheetOrders (u .sheet) ≡ broker = λ a. c .list in
         let p : (recovered x .marks .number + 1 + openIntents x < 2 ^ 64) × (64 * length (recovered x .orders) < ordersMost) =
-                elim (l .space) [ inl n ↦ absurd (omega (arith, led-total l)) | inr p ↦ p ] in
+        elim (l .space) [ inl n ↦ absurd (omega (arith, led-total l)) | inr p ↦ p ] in
         let b = chosenBy u x bx sx in
         let same = addendum-same laws broker small u x bx sx one in
         let ne : eventCount y ≡ eventCount x + openIntents x = led-count l ∙ omega (arith, led-total l) in
         let nb : length b ≡ 24 + 240 * length (roundSymbols u x) + length (entryTexts (chosen broker) (roundSymbols u x)) =
-                add-length (chosen broker) (u .time) (recovered x .marks .number) (roundSymbols u x) in
+        add-length (chosen broker) (u .time) (recovered x .marks .number) (roundSymbols u x) in
         let ny = book-length y (l .sound) in
         let sy = sound-size y (l .sound) in
         let ky = sound-counts y (l .sound) in
@@ -188,16 +193,16 @@ module _ (laws : Laws) (broker : List BrokerOrderStatus) (small : Small (chosen 
         let lb : length b ≤ 1048576 = omega arith in
         let f : First u x = record { now = c .now; room = c .records } in
         let q : Second u x =
-                record {
-                  few = lt-leb ordersMost (64 * length (recovered x .orders)) (p .1);
-                  sheet = c .sheet;
-                  time = c .time;
-                  numbers = lt-ltb (recovered x .marks .number + 1 + openIntents x) (2 ^ 64) (p .0);
-                  size =
-                    subst (λ (a : List ℕ). tooLarge (length a) (length (roundSymbols u x)) 0 ≡ false) (sym same)
-                    (not-large (length b) (length (roundSymbols u x)) 0 lb (omega (arith, ky .events)) (omega arith));
-                  room = subst (λ (a : List ℕ). ltb (u .addendum) (length a) ≡ false) (sym same) (le-ltb (u .addendum) (length b) (omega (arith, c .addendum)));
-                } in
+        record {
+          few = lt-leb ordersMost (64 * length (recovered x .orders)) (p .1);
+          sheet = c .sheet;
+          time = c .time;
+          numbers = lt-ltb (recovered x .marks .number + 1 + openIntents x) (2 ^ 64) (p .0);
+          size =
+              subst (λ (a : List ℕ). tooLarge (length a) (length (roundSymbols u x)) 0 ≡ false) (sym same)
+              (not-large (length b) (length (roundSymbols u x)) 0 lb (omega (arith, ky .events)) (omega arith));
+          room = subst (λ (a : List ℕ). ltb (u .addendum) (length a) ≡ false) (sym same) (le-ltb (u .addendum) (length b) (omega (arith, c .addendum)));
+        } in
         let is : roundOf u x ≡ joinRound u x b = stages u x (textLength x) sx (orders-good x bx sx) f q ∙ ap (joinRound u x) same in
         let en = entered laws broker small u x bx sx one q in
         let k : u .k ≡ eventCount b = c .whole ∙ ap (λ (o : Outcome). eventCount (o .addendum)) is ∙ ap eventCount (third-addendum u x b) in
@@ -206,13 +211,13 @@ module _ (laws : Laws) (broker : List BrokerOrderStatus) (small : Small (chosen 
         let tc = laws .addText en in
         let lj : joinedLength x b (u .k) ≤ 1048576 = omega arith in
         let t : Third u x b =
-                record {
-                  sound = laws .addSound en;
-                  count = le-ltb (eventCount b) (u .k) (omega arith);
-                  size =
-                    not-large (joinedLength x b (u .k)) (eventCount x + u .k) (rowCount x + rowCount b) lj (omega (arith, ky .events)) (omega (arith, ky .rows));
-                  room = le-ltb (u .joined) (joinedLength x b (u .k)) (omega (arith, c .joined));
-                } in
+        record {
+          sound = laws .addSound en;
+          count = le-ltb (eventCount b) (u .k) (omega arith);
+          size =
+              not-large (joinedLength x b (u .k)) (eventCount x + u .k) (rowCount x + rowCount b) lj (omega (arith, ky .events)) (omega (arith, ky .rows));
+          room = le-ltb (u .joined) (joinedLength x b (u .k)) (omega (arith, c .joined));
+        } in
         ap (λ (o : Outcome). done (o .answer)) is ∙ third-done u x b sx t
 
     uncut-end : {y : List ℕ} → NoRepeat (recovered x .orders) → Led (chosen broker) x y → openIntents y ≡ 0 → sameRecovered y (next u x) ≡ true
@@ -221,8 +226,8 @@ module _ (laws : Laws) (broker : List BrokerOrderStatus) (small : Small (chosen 
         let m = led-next u x bx sx d (λ h. one) in
         led-same bx sx l m e
         (by-bool (passes u x)
-          (λ h. omega (arith, led-total m, led-count m, next-count u x bx sx one d h, whole-count u x bx sx one h (c .whole), uncut-reached))
-          (λ h. ap openIntents (round-refused u x h) ∙ by-zero (openIntents x) (λ z. true≢false (sym (uncut-ok l e z) ∙ h))))
+        (λ h. omega (arith, led-total m, led-count m, next-count u x bx sx one d h, whole-count u x bx sx one h (c .whole), uncut-reached))
+        (λ h. ap openIntents (round-refused u x h) ∙ by-zero (openIntents x) (λ z. true≢false (sym (uncut-ok l e z) ∙ h))))
 
   -- ---- the theorem
   pub demand3-by : (rs : List Round) (log : List ℕ) → Bytes log → bookLayout log ≡ L.Sound → NoRepeat (recovered log .orders) → OneList broker rs log
@@ -230,16 +235,16 @@ module _ (laws : Laws) (broker : List BrokerOrderStatus) (small : Small (chosen 
   demand3-by rs log b s d one =
       let l = led-run rs log b s d one in
       let ad : added log (run rs log) ≡ l .entries =
-              ap (drop (length (eventsOf log))) (l .events) ∙ drop-append-seam (eventsOf log) (l .entries) in
+      ap (drop (length (eventsOf log))) (l .events) ∙ drop-append-seam (eventsOf log) (l .entries) in
       let w : Written (chosen broker) (textOf (run rs log)) (lastNumber 0 (eventsOf log)) (l .symbols) (l .entries) =
-              subst (λ (n : ℕ). Written (chosen broker) (textOf (run rs log)) n (l .symbols) (l .entries)) (steps-number (firstState (pos 0)) (eventsOf log)) (l .written) in
+      subst (λ (n : ℕ). Written (chosen broker) (textOf (run rs log)) n (l .symbols) (l .entries)) (steps-number (firstState (pos 0)) (eventsOf log)) (l .written) in
       record {
         formed = l .sound;
         kept = ap (take (length (eventsOf log))) (l .events) ∙ take-append-seam (eventsOf log) (l .entries);
         accepted = λ h. book-accepted log (run rs log) s (l .sound) (l .events) w h;
         once = λ y.
-          subst (λ (es : List Event). countWhere (isEntry y) es ≤ 1) (sym ad)
-          (omega (arith, written-hits y (l .texted) (l .written), l .weight (tally y), tally-one y (recovered log .orders) d));
+            subst (λ (es : List Event). countWhere (isEntry y) es ≤ 1) (sym ad)
+            (omega (arith, written-hits y (l .texted) (l .written), l .weight (tally y), tally-one y (recovered log .orders) d));
         total = subst (λ (es : List Event). length es + openIntents (run rs log) ≡ openIntents log) (sym ad) (omega (arith, written-length (l .written), led-total l));
         numbers = subst (Follow (lastNumber 0 (eventsOf log))) (sym ad) (written-follow w);
         fewer = run-fewer rs log b s d one;

@@ -1,1 +1,4 @@
 pub mod Entries
+pub mod JoinExamples
+pub mod BookOf
+pub mod MovedTables

@@ -2,3 +2,5 @@ pub mod Entries
 pub mod JoinExamples
 pub mod BookOf
 pub mod MovedTables
+pub mod MovedCells
+pub mod MovedEvents

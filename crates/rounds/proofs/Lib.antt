@@ -4,3 +4,4 @@ pub mod BookOf
 pub mod MovedTables
 pub mod MovedCells
 pub mod MovedEvents
+pub mod JoinLayout

@@ -5,3 +5,4 @@ pub mod MovedTables
 pub mod MovedCells
 pub mod MovedEvents
 pub mod JoinLayout
+pub mod JoinEvents

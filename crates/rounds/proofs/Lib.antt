@@ -6,3 +6,5 @@ pub mod MovedCells
 pub mod MovedEvents
 pub mod JoinLayout
 pub mod JoinEvents
+pub mod EntryBytes
+pub mod AddendumBook

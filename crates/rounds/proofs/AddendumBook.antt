@@ -1,0 +1,154 @@
+-- The addendum is a sound book of the entries, not too large, and what recovery reads from it are the entries. About no function.
+-- Assumes nothing.
+use Prim.Native.Nat.{ℕ, zero, suc, _+_, _*_, _^_, _≤_, _<_}
+use mathlib.Core.Path.{_≡_, refl, sym, ap, _∙_}
+use mathlib.Core.List.{List, [], _∷_, _++_, append-assoc}
+use mathlib.Core.Bool.{Bool, true, false, _&&_}
+use native.Mathlib.Nat.{mul-suc, mul-zero}
+use native.Mathlib.Omega.{arith}
+use lib.Dec.{T, ltb}
+use borrow.Author.Tests.{ltb-true}
+use lib.IntN.{ℤ}
+use lib.ListN.{length, take, drop, length-append}
+use lib.Seq.{drop-at}
+use Rattle.wire.specs.Le.{le, bytesOf}
+use Rattle.wire.specs.Table.{every, records}
+use Rattle.wire.specs.declared.layout.Layout.the-variants as L
+use Rattle.wire.proofs.Records.{Each, none, more}
+use Rattle.wire.proofs.Written.{Bytes}
+use Rattle.wire.proofs.Written as Wr
+use Rattle.symbol.specs.Symbol.{symbolWidth, allOf}
+use Rattle.symbol.specs.declared.Symbol.{Symbol}
+use Rattle.book.specs.Layout.{rowOk, eventOk, eventCount, rowCount, textLength, bookLayout}
+use Rattle.book.specs.Event.{eventsIn, rowsIn, textOf}
+use Rattle.checkpoint.specs.Checkpoint.{ascii, eventName}
+use Rattle.checkpoint.specs.declared.Checkpoint.the-variants.{OrderSubmitted, OrderFailed}
+use Rattle.effects.specs.Event.{Event, eventOf, eventsOf}
+use Rattle.join.specs.Join.{bookOf, tooLarge}
+use Rattle.intents.specs.Intents.{symbolText, entryName, reasonText, entryText, entryBytes, entryTable, entryTexts, addendum, timeLayout}
+use Rattle.intents.specs.declared.Chosen.{Chosen}
+use Rattle.intents.specs.declared.Chosen.the-variants as C
+use Rattle.rounds.proofs.Entries.{Texted, entryEvent, entryEvents}
+use Rattle.rounds.proofs.BookOf.{small, Reads, length-book, book-reads, book-sound}
+use Rattle.rounds.proofs.MovedTables.{and-both, bytes-append, bytes-take, bytes-number}
+use Rattle.rounds.proofs.JoinLayout.{bytes-book}
+use Rattle.rounds.proofs.EntryBytes.{IdFits, entry-read, entry-passes, length-entry, bytes-entry}
+
+-- ---- the table of the entries
+module _ (c : Chosen) (time : ℤ) where
+  pub length-table : (number first : ℕ) (ys : List Symbol) → length (entryTable c time number first ys) ≡ 240 * length ys
+  unfolding entryTable
+  length-table number first [] = refl
+  length-table number first (y ∷ ys) =
+      length-append (entryBytes c time number first y) (entryTable c time (suc number) (first + length (entryText c y)) ys)
+      ∙ omega (arith, length-entry c time number first y, length-table (suc number) (first + length (entryText c y)) ys)
+
+  pub bytes-table : (number first : ℕ) (ys : List Symbol) → Bytes (entryTable c time number first ys)
+  unfolding entryTable
+  bytes-table number first [] = Wr.none
+  bytes-table number first (y ∷ ys) = bytes-append (bytes-entry c time number first y) (bytes-table (suc number) (first + length (entryText c y)) ys)
+
+  module _ (id : IdFits c) (valid : timeLayout time ≡ L.Sound) (text : List ℕ) (fits : length text < 2 ^ 32) where
+    table-read : (rows : List ℕ) (number : ℕ) (ys : List Symbol) (p t : List ℕ) → Each Texted ys → text ≡ p ++ entryTexts c ys → number + length ys ≤ 2 ^ 64
+        → records (eventOf rows text) 240 (length ys) (entryTable c time number (length p) ys ++ t) ≡ entryEvents c time number (length p) ys
+    unfolding entryTable entryTexts entryEvents records
+    table-read rows number [] p t none split room = refl
+    table-read rows number (y ∷ ys) p t (more texted each) split room =
+        let first = length p in
+        let rest = entryTable c time (suc number) (first + length (entryText c y)) ys in
+        let n : number < 2 ^ 64 = omega arith in
+        let next : suc number + length ys ≤ 2 ^ 64 = omega arith in
+        let split' : text ≡ (p ++ entryText c y) ++ entryTexts c ys = split ∙ sym (append-assoc p (entryText c y) (entryTexts c ys)) in
+        rw (
+          append-assoc (entryBytes c time number first y) rest t,
+          entry-read c time number y texted p (entryTexts c ys) text split fits id n valid (rest ++ t) rows,
+          drop-at (entryBytes c time number first y) (rest ++ t) 240 (length-entry c time number first y),
+          ← length-append p (entryText c y),
+        )
+        (ap (λ (es : List Event). entryEvent c time number first y ∷ es) (table-read rows (suc number) ys (p ++ entryText c y) t each split' next))
+
+    table-passes : (rows number : ℕ) (ys : List Symbol) (p t : List ℕ) → Each Texted ys → text ≡ p ++ entryTexts c ys → number + length ys ≤ 2 ^ 64
+        → every (eventOk rows (length text)) 240 (length ys) (entryTable c time number (length p) ys ++ t) ≡ true
+    unfolding entryTable entryTexts every
+    table-passes rows number [] p t none split room = refl
+    table-passes rows number (y ∷ ys) p t (more texted each) split room =
+        let first = length p in
+        let rest = entryTable c time (suc number) (first + length (entryText c y)) ys in
+        let n : number < 2 ^ 64 = omega arith in
+        let next : suc number + length ys ≤ 2 ^ 64 = omega arith in
+        let split' : text ≡ (p ++ entryText c y) ++ entryTexts c ys = split ∙ sym (append-assoc p (entryText c y) (entryTexts c ys)) in
+        rw (
+          append-assoc (entryBytes c time number first y) rest t,
+          entry-passes c time number y texted p (entryTexts c ys) text split fits id n valid (rest ++ t) rows,
+          drop-at (entryBytes c time number first y) (rest ++ t) 240 (length-entry c time number first y),
+          ← length-append p (entryText c y),
+        )
+        (table-passes rows (suc number) ys (p ++ entryText c y) t each split' next)
+
+-- ---- the texts are bytes
+bytes-if : (s : List ℕ) → T (allOf (λ (b : ℕ). ltb b 256) s) → Bytes s
+unfolding allOf
+bytes-if [] h = Wr.none
+bytes-if (b ∷ s) h = bytes-more (ltb b 256) (allOf (λ (b : ℕ). ltb b 256) s) refl h (bytes-if s)
+  where
+    bytes-more : (x z : Bool) → ltb b 256 ≡ x → T (x && z) → (T z → Bytes s) → Bytes (b ∷ s)
+    bytes-more true z e h k = Wr.more (ltb-true b 256 e) (k h)
+    bytes-more false z e h k = absurd h
+
+bytes-name : (c : Chosen) → Bytes (entryName c)
+unfolding eventName allOf
+bytes-name (C.Is id) = bytes-if (eventName OrderSubmitted) tt
+bytes-name C.Nothing = bytes-if (eventName OrderFailed) tt
+
+bytes-reason : (c : Chosen) → Bytes (reasonText c)
+unfolding allOf
+bytes-reason (C.Is id) = Wr.none
+bytes-reason C.Nothing = bytes-if (reasonText C.Nothing) tt
+
+pub bytes-texts : (c : Chosen) (ys : List Symbol) → Bytes (entryTexts c ys)
+unfolding entryTexts entryText
+bytes-texts c [] = Wr.none
+bytes-texts c (y ∷ ys) =
+    bytes-append
+    (bytes-append (bytes-name c) (bytes-append (bytes-take (y .len) (bytesOf symbolWidth (y .word)) (bytes-number symbolWidth (y .word))) (bytes-reason c)))
+    (bytes-texts c ys)
+
+-- ---- the addendum
+module _ (c : Chosen) (time : ℤ) (last : ℕ) (ys : List Symbol) where
+  pub length-addendum : length (addendum c time last ys) ≡ 24 + 240 * length ys + length (entryTexts c ys)
+  unfolding addendum
+  length-addendum =
+      length-book (length ys) 0 (entryTable c time (suc last) 0 ys) [] (entryTexts c ys) (length-table c time (suc last) 0 ys) refl ∙ omega arith
+
+  pub bytes-addendum : Bytes (addendum c time last ys)
+  unfolding addendum
+  bytes-addendum = bytes-book (length ys) 0 (entryTable c time (suc last) 0 ys) [] (entryTexts c ys) (bytes-table c time (suc last) 0 ys) Wr.none (bytes-texts c ys)
+
+  module _ (fits : tooLarge (length (addendum c time last ys)) (length ys) 0 ≡ false) where
+    below : 24 + 240 * length ys + 64 * 0 + length (entryTexts c ys) < 2 ^ 32
+    below = omega (arith, small (length (addendum c time last ys)) (length ys) 0 fits .bytes, length-addendum)
+
+    pub addendum-reads : Reads (length ys) 0 (entryTable c time (suc last) 0 ys) [] (entryTexts c ys) (addendum c time last ys)
+    unfolding addendum
+    addendum-reads =
+        book-reads (length ys) 0 (entryTable c time (suc last) 0 ys) [] (entryTexts c ys) (length-table c time (suc last) 0 ys) refl below
+
+    module _ (id : IdFits c) (valid : timeLayout time ≡ L.Sound) (each : Each Texted ys) (room : last + length ys < 2 ^ 64) where
+      pub addendum-sound : bookLayout (addendum c time last ys) ≡ L.Sound
+      unfolding addendum every
+      addendum-sound =
+          let n : suc last + length ys ≤ 2 ^ 64 = omega arith in
+          let e : 24 + 240 * length ys + length (entryTexts c ys) ≡ 24 + 240 * length ys + 64 * 0 + length (entryTexts c ys) = omega arith in
+          let text : length (entryTexts c ys) < 2 ^ 32 = omega (arith, below) in
+          book-sound (length ys) 0 (entryTable c time (suc last) 0 ys) [] (entryTexts c ys) (length-table c time (suc last) 0 ys) refl below
+          (ap (λ (m : ℕ). tooLarge m (length ys) 0) (sym (length-addendum ∙ e)) ∙ fits)
+          (table-passes c time id valid (entryTexts c ys) text 0 (suc last) ys [] (entryTexts c ys) each refl n)
+          refl
+
+      pub addendum-events : eventsOf (addendum c time last ys) ≡ entryEvents c time (suc last) 0 ys
+      addendum-events =
+          let z = addendum-reads in
+          let n : suc last + length ys ≤ 2 ^ 64 = omega arith in
+          let text : length (entryTexts c ys) < 2 ^ 32 = omega (arith, below) in
+          rw (z .rowTable, z .wholeText, z .eventTable, z .count)
+          (table-read c time id valid (entryTexts c ys) text (entryTexts c ys) (suc last) ys [] (entryTexts c ys) each refl n)

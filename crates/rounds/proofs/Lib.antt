@@ -8,3 +8,4 @@ pub mod JoinLayout
 pub mod JoinEvents
 pub mod EntryBytes
 pub mod AddendumBook
+pub mod Joined

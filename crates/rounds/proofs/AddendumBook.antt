@@ -1,17 +1,16 @@
 -- The addendum is a sound book of the entries, not too large, and what recovery reads from it are the entries. About no function.
 -- Assumes nothing.
-use Prim.Native.Nat.{ℕ, zero, suc, _+_, _*_, _^_, _≤_, _<_}
+use Prim.Native.Nat.{ℕ, suc, _+_, _*_, _^_, _≤_, _<_}
 use mathlib.Core.Path.{_≡_, refl, sym, ap, _∙_}
 use mathlib.Core.List.{List, [], _∷_, _++_, append-assoc}
 use mathlib.Core.Bool.{Bool, true, false, _&&_}
-use native.Mathlib.Nat.{mul-suc, mul-zero}
 use native.Mathlib.Omega.{arith}
 use lib.Dec.{T, ltb}
 use borrow.Author.Tests.{ltb-true}
 use lib.IntN.{ℤ}
-use lib.ListN.{length, take, drop, length-append}
+use lib.ListN.{length, length-append}
 use lib.Seq.{drop-at}
-use Rattle.wire.specs.Le.{le, bytesOf}
+use Rattle.wire.specs.Le.{bytesOf}
 use Rattle.wire.specs.Table.{every, records}
 use Rattle.wire.specs.declared.layout.Layout.the-variants as L
 use Rattle.wire.proofs.Records.{Each, none, more}
@@ -19,18 +18,17 @@ use Rattle.wire.proofs.Written.{Bytes}
 use Rattle.wire.proofs.Written as Wr
 use Rattle.symbol.specs.Symbol.{symbolWidth, allOf}
 use Rattle.symbol.specs.declared.Symbol.{Symbol}
-use Rattle.book.specs.Layout.{rowOk, eventOk, eventCount, rowCount, textLength, bookLayout}
-use Rattle.book.specs.Event.{eventsIn, rowsIn, textOf}
-use Rattle.checkpoint.specs.Checkpoint.{ascii, eventName}
+use Rattle.book.specs.Layout.{eventOk, bookLayout}
+use Rattle.checkpoint.specs.Checkpoint.{eventName}
 use Rattle.checkpoint.specs.declared.Checkpoint.the-variants.{OrderSubmitted, OrderFailed}
 use Rattle.effects.specs.Event.{Event, eventOf, eventsOf}
-use Rattle.join.specs.Join.{bookOf, tooLarge}
-use Rattle.intents.specs.Intents.{symbolText, entryName, reasonText, entryText, entryBytes, entryTable, entryTexts, addendum, timeLayout}
+use Rattle.join.specs.Join.{tooLarge}
+use Rattle.intents.specs.Intents.{entryName, reasonText, entryText, entryBytes, entryTable, entryTexts, addendum, timeLayout}
 use Rattle.intents.specs.declared.Chosen.{Chosen}
 use Rattle.intents.specs.declared.Chosen.the-variants as C
 use Rattle.rounds.proofs.Entries.{Texted, entryEvent, entryEvents}
 use Rattle.rounds.proofs.BookOf.{small, Reads, length-book, book-reads, book-sound}
-use Rattle.rounds.proofs.MovedTables.{and-both, bytes-append, bytes-take, bytes-number}
+use Rattle.rounds.proofs.MovedTables.{bytes-append, bytes-take, bytes-number}
 use Rattle.rounds.proofs.JoinLayout.{bytes-book}
 use Rattle.rounds.proofs.EntryBytes.{IdFits, entry-read, entry-passes, length-entry, bytes-entry}
 
@@ -122,7 +120,8 @@ module _ (c : Chosen) (time : ℤ) (last : ℕ) (ys : List Symbol) where
 
   pub bytes-addendum : Bytes (addendum c time last ys)
   unfolding addendum
-  bytes-addendum = bytes-book (length ys) 0 (entryTable c time (suc last) 0 ys) [] (entryTexts c ys) (bytes-table c time (suc last) 0 ys) Wr.none (bytes-texts c ys)
+  bytes-addendum =
+      bytes-book (length ys) 0 (entryTable c time (suc last) 0 ys) [] (entryTexts c ys) (bytes-table c time (suc last) 0 ys) Wr.none (bytes-texts c ys)
 
   module _ (fits : tooLarge (length (addendum c time last ys)) (length ys) 0 ≡ false) where
     below : 24 + 240 * length ys + 64 * 0 + length (entryTexts c ys) < 2 ^ 32

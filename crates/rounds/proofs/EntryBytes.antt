@@ -1,45 +1,44 @@
 -- An entry's bytes: what they are read as, and that they pass the layout of a book whose text holds the entry's. About no function.
 -- Assumes nothing.
-use Prim.Native.Nat.{ℕ, zero, suc, _+_, _*_, _%_, _/_, _^_, _≤_, _<_}
+use Prim.Native.Nat.{ℕ, _+_, _*_, _%_, _/_, _^_, _≤_, _<_}
 use mathlib.Core.Path.{_≡_, refl, sym, ap, _∙_}
-use mathlib.Core.List.{List, [], _∷_, _++_, append-assoc, append-nil}
+use mathlib.Core.List.{List, [], _++_, append-assoc, append-nil}
 use mathlib.Core.Bool.{Bool, true, false, cond, _&&_}
-use mathlib.Core.Option.{Option, none, some}
+use mathlib.Core.Option.{none}
 use native.Mathlib.Omega.{arith}
 use lib.Dec.{ltb, lit<}
 use lib.IntN.{ℤ, pos, negsuc}
-use lib.ListN.{length, take, drop, length-append, length-take}
-use lib.Seq.{take-at, drop-at, drop-drop}
+use lib.ListN.{length, take, drop, length-append}
+use lib.Seq.{take-at, drop-at}
 use lib.Signed.{leZ}
 use borrow.Author.Tests.{leb-true, le-leb, ltb-false}
 use mir.Syntax.{w64}
-use mir.Val.{toZ, ofZ, SFits}
+use mir.Val.{toZ, ofZ}
 use mir.ValLaws.{toZ-ofZ}
 use Rattle.wire.specs.Le.{le, bytesOf, sameBytes}
 use Rattle.wire.specs.Table.{every}
 use Rattle.wire.specs.Layout.{soundIf}
 use Rattle.wire.specs.declared.layout.Layout.the-variants as L
-use Rattle.wire.proofs.Written.{Bytes, length-bytesOf, le-bytesOf}
+use Rattle.wire.proofs.Written.{Bytes, le-bytesOf}
 use Rattle.symbol.specs.declared.Symbol.{Symbol}
-use Rattle.symbol.proofs.Text.{and-left, and-right}
+use Rattle.symbol.proofs.Text.{and-right}
 use Rattle.cell.specs.declared.AsStr.the-variants as Str
 use Rattle.cell.specs.declared.AsI64.the-variants as I64
 use Rattle.cell.specs.declared.AsF64.the-variants as F64
 use Rattle.cell.specs.declared.AsBool.the-variants as B
 use Rattle.book.specs.declared.event.SequenceNumber.the-variants as N
-use Rattle.cell.specs.Cell.{cellBy, cellOf, asStr, asI64, asF64, asBool, asArray, textIn}
+use Rattle.cell.specs.Cell.{cellBy, cellOf, asStr, asI64}
 use Rattle.cell.specs.declared.Cell.the-variants.{None}
 use Rattle.book.specs.Layout.{latest, payloadOk, cellOk, windowOk, eventOk}
-use Rattle.checkpoint.specs.Checkpoint.{ascii, eventName, checkpoints, namedAmong, named}
+use Rattle.checkpoint.specs.Checkpoint.{eventName, checkpoints, namedAmong, named}
 use Rattle.checkpoint.specs.declared.Named.the-variants as K
-use Rattle.effects.specs.Event.{Event, bytesOfText, eventOf}
-use Rattle.intents.specs.Intents.{symbolText, entryName, reasonText, entryText, cellBytes, noCell, textCell, idCellBytes, reasonCellBytes, entryBytes, timeLayout}
+use Rattle.effects.specs.Event.{bytesOfText, eventOf}
+use Rattle.intents.specs.Intents.{symbolText, entryName, reasonText, entryText, cellBytes, noCell, idCellBytes, reasonCellBytes, entryBytes, timeLayout}
 use Rattle.intents.specs.declared.Chosen.{Chosen}
 use Rattle.intents.specs.declared.Chosen.the-variants as C
 use Rattle.rounds.proofs.Entries.{Texted, entryCheckpoint, entryId, entryReason, entryEvent}
 use Rattle.rounds.proofs.MovedTables.{and-both, bytes-append, bytes-number}
-use Rattle.rounds.proofs.MovedCells.{cell-near}
-use Rattle.rounds.proofs.MovedEvents.{Passed, passes}
+use Rattle.rounds.proofs.MovedEvents.{passes}
 
 -- ---- a cell that was written
 module _ (k p : ℕ) (t : List ℕ) (hk : k < 2 ^ 64) (hp : p < 2 ^ 64) where
@@ -103,7 +102,7 @@ reason-plain C.Nothing first = refl
 
 entry-plain : (c : Chosen) (time : ℤ) (number first : ℕ) (y : Symbol) → entryBytes c time number first y
     ≡ eventWith first (length (entryName c)) number (ofZ w64 time) 4 (first + length (entryName c) + 2 ^ 32 * y .len) (idKind c) (idPayload c)
-      (reasonKind c) (reasonPayload c (first + length (entryName c) + y .len))
+    (reasonKind c) (reasonPayload c (first + length (entryName c) + y .len))
 unfolding entryBytes eventWith
 entry-plain c time number first y = rw (id-plain c, reason-plain c (first + length (entryName c) + y .len))
 
@@ -112,7 +111,8 @@ module _ (first len number time k0 p0 k5 p5 k6 p6 : ℕ) where
   unfolding eventWith bytesOf
   length-with = refl
 
-  module _ (t : List ℕ) (f : first < 2 ^ 32) (l : len < 2 ^ 32) (n : number < 2 ^ 64) (m : time < 2 ^ 64) (s0 : p0 < 2 ^ 64) (s5 : p5 < 2 ^ 64) (s6 : p6 < 2 ^ 64)
+  module _ (t : List ℕ) (f : first < 2 ^ 32) (l : len < 2 ^ 32) (n : number < 2 ^ 64) (m : time < 2 ^ 64)
+      (s0 : p0 < 2 ^ 64) (s5 : p5 < 2 ^ 64) (s6 : p6 < 2 ^ 64)
       (h0 : k0 < 2 ^ 64) (h5 : k5 < 2 ^ 64) (h6 : k6 < 2 ^ 64) where
     abbrev bytes : List ℕ
     bytes = eventWith first len number time k0 p0 k5 p5 k6 p6 ++ t
@@ -168,16 +168,16 @@ module _ (first len number time k0 p0 k5 p5 k6 p6 : ℕ) where
     cells-pass rows text o0 o5 o6 =
         and-both (cell-passes k0 p0 _ h0 s0 rows text o0)
         (and-both (no-cell rows text _)
-          (and-both (no-cell rows text _)
-            (and-both (no-cell rows text _)
-              (and-both (no-cell rows text _)
-                (and-both (cell-passes k5 p5 _ h5 s5 rows text o5)
-                  (and-both (cell-passes k6 p6 _ h6 s6 rows text o6)
-                    (and-both (no-cell rows text _)
-                      (and-both (no-cell rows text _)
-                        (and-both (no-cell rows text _)
-                          (and-both (no-cell rows text _)
-                            (and-both (no-cell rows text _) (and-both (truth-cell rows text _) refl))))))))))))
+        (and-both (no-cell rows text _)
+        (and-both (no-cell rows text _)
+        (and-both (no-cell rows text _)
+        (and-both (cell-passes k5 p5 _ h5 s5 rows text o5)
+        (and-both (cell-passes k6 p6 _ h6 s6 rows text o6)
+        (and-both (no-cell rows text _)
+        (and-both (no-cell rows text _)
+        (and-both (no-cell rows text _)
+        (and-both (no-cell rows text _)
+        (and-both (no-cell rows text _) (and-both (truth-cell rows text _) refl))))))))))))
 
     -- what it is read as, and that it passes
     with-read : (rows text : List ℕ) → eventOf rows text bytes
@@ -223,12 +223,12 @@ module _ (first len number time k0 p0 k5 p5 k6 p6 : ℕ) where
     with-passes rows text name late o0 o5 o6 =
         passes rows text bytes
         (record {
-            name = rw (first-at, len-at) name;
-            head = (rw pad-at, rw mark-at, rw mark-at);
-            time = rw time-at late;
-            window = window-at;
-            cells = cells-pass rows text o0 o5 o6;
-          })
+          name = rw (first-at, len-at) name;
+          head = (rw pad-at, rw mark-at, rw mark-at);
+          time = rw time-at late;
+          window = window-at;
+          cells = cells-pass rows text o0 o5 o6;
+        })
 
 -- ---- a time of an event's range, and its bits
 sound-true : (b : Bool) → soundIf b ≡ L.Sound → b ≡ true
@@ -241,7 +241,8 @@ pub record TimeBits (time : ℤ) : Type 0 where
 
 pub time-bits : (time : ℤ) → timeLayout time ≡ L.Sound → TimeBits time
 time-bits (pos n) h =
-    let l : n ≤ latest = leb-true n latest (and-right (leZ (pos 0) (pos n)) (leZ (pos n) (pos latest)) (sound-true (leZ (pos 0) (pos n) && leZ (pos n) (pos latest)) h)) in
+    let b = sound-true (leZ (pos 0) (pos n) && leZ (pos n) (pos latest)) h in
+    let l : n ≤ latest = leb-true n latest (and-right (leZ (pos 0) (pos n)) (leZ (pos n) (pos latest)) b) in
     let s : n < 2 ^ 63 = omega arith in
     record { most = l; back = toZ-ofZ w64 (pos n) (record { sfits = s }) }
 time-bits (negsuc n) h = let z : _≡_ {A = ℕ} 0 1 = cc in absurd (omega arith)
@@ -343,7 +344,7 @@ id-back : (c : Chosen) → IdFits c → asI64 (cellBy (idKind c) (idPayload c)) 
 id-back c h =
     sym
     (ap (λ (s : List ℕ). asI64 (cellOf s)) (id-plain c ∙ sym (append-nil (cellBytes (idKind c) (idPayload c))))
-      ∙ ap asI64 (cell-written (idKind c) (idPayload c) [] (kind-small c) (id-small c h)))
+    ∙ ap asI64 (cell-written (idKind c) (idPayload c) [] (kind-small c) (id-small c h)))
 
 name-back : (c : Chosen) → named (entryName c) ≡ K.Is (entryCheckpoint c)
 unfolding named namedAmong checkpoints eventName sameBytes
@@ -380,19 +381,19 @@ module _ (c : Chosen) (time : ℤ) (number : ℕ) (y : Symbol) (texted : Texted 
     entry-with rows =
         ap (λ (s : List ℕ). eventOf rows text (s ++ t)) (entry-plain c time number (length p) y)
         ∙ with-read (length p) (length (entryName c)) number (ofZ w64 time) 4 (length p + length (entryName c) + 2 ^ 32 * y .len) (idKind c) (idPayload c)
-          (reasonKind c) (reasonPayload c (length p + length (entryName c) + y .len)) t (omega arith) (omega arith) small (omega arith) (omega arith)
-          (id-small c id) (reason-small c (length p + length (entryName c) + y .len) reason-first) (lit< tt) (kind-small c) (reason-kind-small c) rows text
+        (reasonKind c) (reasonPayload c (length p + length (entryName c) + y .len)) t (omega arith) (omega arith) small (omega arith) (omega arith)
+        (id-small c id) (reason-small c (length p + length (entryName c) + y .len) reason-first) (lit< tt) (kind-small c) (reason-kind-small c) rows text
 
     with-pass : (rows : ℕ) → eventOk rows (length text) (entryBytes c time number (length p) y ++ t) ≡ true
     with-pass rows =
         ap (λ (s : List ℕ). eventOk rows (length text) (s ++ t)) (entry-plain c time number (length p) y)
         ∙ with-passes (length p) (length (entryName c)) number (ofZ w64 time) 4 (length p + length (entryName c) + 2 ^ 32 * y .len) (idKind c) (idPayload c)
-          (reasonKind c) (reasonPayload c (length p + length (entryName c) + y .len)) t (omega arith) (omega arith) small (omega arith) (omega arith)
-          (id-small c id) (reason-small c (length p + length (entryName c) + y .len) reason-first) (lit< tt) (kind-small c) (reason-kind-small c)
-          rows (length text) (omega arith) late
-          (ref-ok (length p + length (entryName c)) (y .len) symbol-first rows (length text) (omega arith))
-          (id-payload-ok c rows (length text))
-          (reason-ok c (length p + length (entryName c) + y .len) rows (length text) reason-first inside)
+        (reasonKind c) (reasonPayload c (length p + length (entryName c) + y .len)) t (omega arith) (omega arith) small (omega arith) (omega arith)
+        (id-small c id) (reason-small c (length p + length (entryName c) + y .len) reason-first) (lit< tt) (kind-small c) (reason-kind-small c)
+        rows (length text) (omega arith) late
+        (ref-ok (length p + length (entryName c)) (y .len) symbol-first rows (length text) (omega arith))
+        (id-payload-ok c rows (length text))
+        (reason-ok c (length p + length (entryName c) + y .len) rows (length text) reason-first inside)
 
   pub entry-read : (rows : List ℕ) → eventOf rows text (entryBytes c time number (length p) y ++ t) ≡ entryEvent c time number (length p) y
   entry-read rows =
@@ -417,7 +418,7 @@ pub length-entry : (c : Chosen) (time : ℤ) (number first : ℕ) (y : Symbol) �
 length-entry c time number first y =
     ap length (entry-plain c time number first y)
     ∙ length-with first (length (entryName c)) number (ofZ w64 time) 4 (first + length (entryName c) + 2 ^ 32 * y .len) (idKind c) (idPayload c)
-      (reasonKind c) (reasonPayload c (first + length (entryName c) + y .len))
+    (reasonKind c) (reasonPayload c (first + length (entryName c) + y .len))
 
 bytes-with : (first len number time k0 p0 k5 p5 k6 p6 : ℕ) → Bytes (eventWith first len number time k0 p0 k5 p5 k6 p6)
 unfolding eventWith
@@ -427,4 +428,4 @@ pub bytes-entry : (c : Chosen) (time : ℤ) (number first : ℕ) (y : Symbol) �
 bytes-entry c time number first y =
     rw (entry-plain c time number first y)
     (bytes-with first (length (entryName c)) number (ofZ w64 time) 4 (first + length (entryName c) + 2 ^ 32 * y .len) (idKind c) (idPayload c)
-      (reasonKind c) (reasonPayload c (first + length (entryName c) + y .len)))
+    (reasonKind c) (reasonPayload c (first + length (entryName c) + y .len)))

@@ -2,18 +2,16 @@
 -- About no function. Assumes nothing.
 use Prim.Native.Nat.{ℕ, zero, suc, _+_, _*_, _-_, _%_, _/_, _^_, _≤_, _<_}
 use mathlib.Core.Path.{_≡_, refl, sym, ap, _∙_}
-use mathlib.Core.List.{List, [], _∷_, _++_, map, append-assoc}
-use mathlib.Core.Bool.{Bool, true, false}
+use mathlib.Core.List.{List, [], _∷_, _++_, map}
+use mathlib.Core.Bool.{true, false}
 use mathlib.Core.Option.{Option, none, some}
 use native.Mathlib.Nat.{add-comm, le-refl}
 use native.Mathlib.Omega.{arith}
-use lib.Dec.{eqb, lit<}
-use lib.ListN.{length, take, drop, length-append, length-drop}
-use lib.Seq.{drop-drop, drop-append-le, drop-append-add, take-append-le, take-all}
+use lib.Dec.{lit<}
+use lib.ListN.{length, take, drop, length-drop}
+use lib.Seq.{drop-drop, drop-append-le, drop-append-add, take-append-le}
 use borrow.Author.Tests.{leb-true}
-use mir.Syntax.{w64}
-use mir.Val.{toZ}
-use Rattle.wire.specs.Le.{le, bytesOf}
+use Rattle.wire.specs.Le.{le}
 use Rattle.wire.specs.Table.{every, records}
 use Rattle.wire.specs.declared.layout.Layout.the-variants as L
 use Rattle.wire.proofs.Numbers.{le-append, le-drop-append}
@@ -29,8 +27,7 @@ use Rattle.cell.specs.declared.AsArray.the-variants as A
 use Rattle.cell.specs.declared.Cell.{Cell}
 use Rattle.cell.specs.declared.Cell.the-variants.{None, Int, Big, Float, Text, Truth, List as Rows}
 use Rattle.book.specs.Layout.{cellOk, rowCellOk, rowOk, eventOk, payloadOk, eventCount, rowCount, textLength, bookLayout}
-use Rattle.book.specs.Event.{eventsIn, rowsIn, textOf, nameIn, numberIf, numberOf, timeOf}
-use Rattle.checkpoint.specs.Checkpoint.{named}
+use Rattle.book.specs.Event.{eventsIn, rowsIn, textOf, nameIn}
 use Rattle.effects.specs.Event.{Event, Row, bytesOfText, rowOf, rowsOf, eventOf, eventsOf}
 use Rattle.recovery.proofs.BookCounts.{every-at, event-cell}
 use Rattle.join.specs.Join.{each, movedCell, movedRow, movedEvent, joined, joinedLength, tooLarge}
@@ -38,7 +35,7 @@ use Rattle.rounds.proofs.BookOf.{small}
 use Rattle.rounds.proofs.MovedTables.{every-from, every-take, records-near, records-take, records-same, records-moved, drop-each, each-at}
 use Rattle.rounds.proofs.MovedCells.{cell-near, movedValue, cell-moved, length-cell, row-cell}
 use Rattle.rounds.proofs.MovedEvents.{length-row, length-event, passed, first-moved, len-moved, mark-moved, number-moved, time-moved, cell-at}
-use Rattle.rounds.proofs.JoinLayout.{Laid, laid, eventBytes, rowBytes, addedEvents, addedRows, length-joined, joined-count, joined-text, joined-rows, joined-events, joined-sound}
+use Rattle.rounds.proofs.JoinLayout.{laid, eventBytes, rowBytes, addedEvents, addedRows, joined-count, joined-text, joined-rows, joined-events}
 
 -- ---- text references moved by d bytes; names, symbols and lists are held by value already
 abbrev pub movedStr : ℕ → AsStr → AsStr
@@ -82,13 +79,15 @@ text-behind : (t u : List ℕ) (d first len : ℕ) → length t ≡ d → take l
 text-behind t u d first len e = rw (← e, add-comm first (length t), drop-append-add t u first)
 
 -- ---- a cell of A reads the same in the larger text
-str-kept : (rows : ℕ) (t u : List ℕ) (k p : ℕ) → payloadOk rows (length t) k p ≡ true → bytesOfText (t ++ u) (asStr (cellBy k p)) ≡ bytesOfText t (asStr (cellBy k p))
+str-kept : (rows : ℕ) (t u : List ℕ) (k p : ℕ) → payloadOk rows (length t) k p ≡ true
+    → bytesOfText (t ++ u) (asStr (cellBy k p)) ≡ bytesOfText t (asStr (cellBy k p))
 unfolding payloadOk cellBy
 str-kept rows t u zero p h = refl
 str-kept rows t u (suc zero) p h = refl
 str-kept rows t u (suc (suc zero)) p h = refl
 str-kept rows t u (suc (suc (suc zero))) p h = refl
-str-kept rows t u (suc (suc (suc (suc zero)))) p h = ap some (text-kept t u (record { first = p % 2 ^ 32; len = p / 2 ^ 32 }) (leb-true (p % 2 ^ 32 + p / 2 ^ 32) (length t) h))
+str-kept rows t u (suc (suc (suc (suc zero)))) p h =
+    ap some (text-kept t u (record { first = p % 2 ^ 32; len = p / 2 ^ 32 }) (leb-true (p % 2 ^ 32 + p / 2 ^ 32) (length t) h))
 str-kept rows t u (suc (suc (suc (suc (suc zero))))) p h = refl
 str-kept rows t u (suc (suc (suc (suc (suc (suc zero)))))) p h = refl
 str-kept rows t u (suc (suc (suc (suc (suc (suc (suc k))))))) p h = refl
@@ -191,11 +190,11 @@ rows-kept n rs x y t u (A.Is first count) size ok w =
     let m : 64 * count ≤ length (drop (64 * first) rs) = rw length-drop (omega arith) in
     ap some
     (ap (records g 64 count) (drop-append-le (64 * first) rs x h)
-      ∙ records-near g 64 (row-of-near (t ++ u)) count (drop (64 * first) rs) x m
-      ∙ sym (records-near g 64 (row-of-near (t ++ u)) count (drop (64 * first) rs) y m)
-      ∙ ap (records g 64 count) (sym (drop-append-le (64 * first) rs y h))
-      ∙ records-same (rowOk n (length t)) 64 g (rowOf t) (row-kept n t u) count (drop (64 * first) (rs ++ y))
-        (every-from (rowOk n (length t)) 64 first count n (rs ++ y) w ok))
+    ∙ records-near g 64 (row-of-near (t ++ u)) count (drop (64 * first) rs) x m
+    ∙ sym (records-near g 64 (row-of-near (t ++ u)) count (drop (64 * first) rs) y m)
+    ∙ ap (records g 64 count) (sym (drop-append-le (64 * first) rs y h))
+    ∙ records-same (rowOk n (length t)) 64 g (rowOf t) (row-kept n t u) count (drop (64 * first) (rs ++ y))
+    (every-from (rowOk n (length t)) 64 first count n (rs ++ y) w ok))
 
 rows-moved : (n m d : ℕ) (ra rb x t u : List ℕ) (a : AsArray) → length ra ≡ 64 * n → length t ≡ d → m < 2 ^ 32 → length u + d < 2 ^ 32 → Bytes rb
     → every (rowOk m (length u)) 64 m rb ≡ true → Within m a
@@ -207,9 +206,9 @@ rows-moved n m d ra rb x t u (A.Is first count) size e r l b ok w =
     let k : count ≤ m - first = omega arith in
     ap some
     (rw (q, drop-append-add ra (each (movedRow d) 64 m rb ++ x) (64 * first), drop-each (movedRow d) 64 (length-row d) first m rb x h)
-      (records-moved (movedRow d) 64 (length-row d) (rowOk m (length u)) (rowOf (t ++ u)) (rowOf u) (movedRowRefs d) (row-moved m d t u e r l)
-        count (m - first) (drop (64 * first) rb) x (bytes-drop (64 * first) rb b) k
-        (every-from (rowOk m (length u)) 64 first count m rb w ok)))
+    (records-moved (movedRow d) 64 (length-row d) (rowOk m (length u)) (rowOf (t ++ u)) (rowOf u) (movedRowRefs d) (row-moved m d t u e r l)
+    count (m - first) (drop (64 * first) rb) x (bytes-drop (64 * first) rb b) k
+    (every-from (rowOk m (length u)) 64 first count m rb w ok)))
 
 -- ---- events
 event-of-near : (rows text s t : List ℕ) → 240 ≤ length s → eventOf rows text (s ++ t) ≡ eventOf rows text s
@@ -262,16 +261,16 @@ module _ (n m d : ℕ) (ra rb x t u : List ℕ) (size : length ra ≡ 64 * n) (e
       let name : take (le 4 (drop 4 s)) (drop (le 4 s + d) (t ++ u)) ≡ nameIn u s = text-behind t u d (le 4 s) (le 4 (drop 4 s)) e in
       let cell : (i : ℕ) → i < 13 → cellOf (drop (32 + 16 * i) (movedEvent d n s ++ v)) ≡ movedValue d n (cellOf (drop (32 + 16 * i) s)) =
       λ (i : ℕ) (h : i < 13).
-        ap cellOf (cell-at d n s v sb i h)
-        ∙ cell-moved m (length u) n d r l (drop (32 + 16 * i) s) (each (movedCell d n) 16 (13 - suc i) (drop 16 (drop (16 * i) (drop 32 s))) ++ v)
-          (bytes-drop (32 + 16 * i) s sb) (event-cell-at m (length u) s i ok h) in
+      ap cellOf (cell-at d n s v sb i h)
+      ∙ cell-moved m (length u) n d r l (drop (32 + 16 * i) s) (each (movedCell d n) 16 (13 - suc i) (drop 16 (drop (16 * i) (drop 32 s))) ++ v)
+      (bytes-drop (32 + 16 * i) s sb) (event-cell-at m (length u) s i ok h) in
       let read : (k : ℕ) → ReadMoved d n (cellOf (drop k s)) = λ (k : ℕ). read-moved d n (cellOf (drop k s)) in
       let list : (i : ℕ) → i < 13
-          → rowsOf (ra ++ (each (movedRow d) 64 m rb ++ x)) (t ++ u) (movedArray n (asArray (cellOf (drop (32 + 16 * i) s))))
-          ≡ movedListRefs d (rowsOf rb u (asArray (cellOf (drop (32 + 16 * i) s)))) =
+      → rowsOf (ra ++ (each (movedRow d) 64 m rb ++ x)) (t ++ u) (movedArray n (asArray (cellOf (drop (32 + 16 * i) s))))
+      ≡ movedListRefs d (rowsOf rb u (asArray (cellOf (drop (32 + 16 * i) s)))) =
       λ (i : ℕ) (h : i < 13).
-        rows-moved n m d ra rb x t u (asArray (cellOf (drop (32 + 16 * i) s))) size e m32 l b rowsOk
-        (cell-array m (length u) (drop (32 + 16 * i) s) (event-cell-at m (length u) s i ok h)) in
+      rows-moved n m d ra rb x t u (asArray (cellOf (drop (32 + 16 * i) s))) size e m32 l b rowsOk
+      (cell-array m (length u) (drop (32 + 16 * i) s) (event-cell-at m (length u) s i ok h)) in
       rw (
         first-moved d n s v sb first,
         len-moved d n s v sb,
@@ -325,8 +324,8 @@ module _ (a b : List ℕ) (k : ℕ) (sa : bookLayout a ≡ L.Sound) (sb : bookLa
       sym (records-near g 240 (event-of-near (rowBytes a ++ x) (textOf a ++ textOf b)) (eventCount a) (eventBytes a) (rowsIn a) size)
       ∙ ap (records g 240 (eventCount a)) (sym (la .eventSplit))
       ∙ records-same (eventOk (rowCount a) (length (textOf a))) 240 g (eventOf (rowBytes a ++ textOf a) (textOf a))
-        (event-kept (rowCount a) (rowBytes a) x (textOf a) (textOf a) (textOf b) (la .rowSize) rows)
-        (eventCount a) (eventsIn a) events
+      (event-kept (rowCount a) (rowBytes a) x (textOf a) (textOf a) (textOf b) (la .rowSize) rows)
+      (eventCount a) (eventsIn a) events
       ∙ ap (λ (r : List ℕ). records (eventOf r (textOf a)) 240 (eventCount a) (eventsIn a)) (sym (la .rowSplit))
 
   events-moved : (x rest : List ℕ) → records (eventOf (rowBytes a ++ (addedRows a b ++ x)) (textOf a ++ textOf b)) 240 k (addedEvents a b k ++ rest)
@@ -344,9 +343,9 @@ module _ (a b : List ℕ) (k : ℕ) (sa : bookLayout a ≡ L.Sound) (sb : bookLa
       let events : every (eventOk m (length (textOf b))) 240 k (eventsIn b) ≡ true =
       every-take (eventOk m (length (textOf b))) 240 k (eventCount b) (eventsIn b) most (rw (lb .text) (lb .events)) in
       records-moved (movedEvent d n) 240 (length-event d n) (eventOk m (length (textOf b)))
-        (eventOf (rowBytes a ++ (addedRows a b ++ x)) (textOf a ++ textOf b)) (eventOf (rowsIn b) (textOf b)) (movedRefs d)
-        (event-moved n m d (rowBytes a) (rowsIn b) x (textOf a) (textOf b) (la .rowSize) (la .text) r l (bytes-drop (24 + 240 * eventCount b) b bytes) rows)
-        k k (eventsIn b) rest (bytes-drop 24 b bytes) (le-refl k) events
+      (eventOf (rowBytes a ++ (addedRows a b ++ x)) (textOf a ++ textOf b)) (eventOf (rowsIn b) (textOf b)) (movedRefs d)
+      (event-moved n m d (rowBytes a) (rowsIn b) x (textOf a) (textOf b) (la .rowSize) (la .text) r l (bytes-drop (24 + 240 * eventCount b) b bytes) rows)
+      k k (eventsIn b) rest (bytes-drop 24 b bytes) (le-refl k) events
       ∙ ap (map (movedRefs d)) (records-take (eventOf (rowsIn b) (textOf b)) 240 k (eventCount b) (eventsIn b) most)
       ∙ take-map (movedRefs d) k (eventsOf b)
 
@@ -360,5 +359,5 @@ module _ (a b : List ℕ) (k : ℕ) (sa : bookLayout a ≡ L.Sound) (sb : bookLa
       let g = eventOf rows text in
       rw (joined-rows a b k la lb fits, joined-text a b k la lb fits, joined-events a b k la lb fits, joined-count a b k la lb fits)
       (records-append g 240 (event-of-near rows text) (eventCount a) k (eventBytes a) (addedEvents a b k ++ rest) (la .eventSize)
-        ∙ ap (λ (es : List Event). es ++ records g 240 k (addedEvents a b k ++ rest)) (events-kept (addedRows a b ++ text))
-        ∙ ap (λ (es : List Event). eventsOf a ++ es) (events-moved text rest))
+      ∙ ap (λ (es : List Event). es ++ records g 240 k (addedEvents a b k ++ rest)) (events-kept (addedRows a b ++ text))
+      ∙ ap (λ (es : List Event). eventsOf a ++ es) (events-moved text rest))

@@ -12,7 +12,7 @@ use Rattle.symbol.specs.declared.Symbol.{Symbol}
 use Rattle.cell.specs.Cell.{cellBy, cellOf}
 use Rattle.book.specs.Layout.{bookLayout, payloadOk, cellOk, rowCellOk, rowOk, windowOk, headOk, eventHeadOk, eventOk, offsetsOk, tablesOk, partsOk}
 use Rattle.book.specs.Event.{textOf}
-use Rattle.checkpoint.specs.Checkpoint.{ascii, eventName, checkpoints, namedAmong, named}
+use Rattle.checkpoint.specs.Checkpoint.{eventName, checkpoints, namedAmong, named}
 use Rattle.audit.proofs.BookBytes.{part, numberedWith, eventTable, bookBytes}
 use Rattle.effects.specs.Event.{eventsOf}
 use Rattle.join.specs.Join.{bookOf, each, movedCell, movedRow, movedEvent, joined}

@@ -1,9 +1,9 @@
 -- The join of two sound books, not too large, is a sound book: its counts, its tables, its text and its bytes. About no function.
 -- Assumes nothing.
-use Prim.Native.Nat.{ℕ, zero, suc, _+_, _*_, _-_, _^_, _≤_, _<_}
-use mathlib.Core.Path.{_≡_, refl, sym, ap, _∙_}
-use mathlib.Core.List.{List, [], _∷_, _++_, append-assoc}
-use mathlib.Core.Bool.{Bool, true, false, _&&_}
+use Prim.Native.Nat.{ℕ, _+_, _*_, _^_, _≤_, _<_}
+use mathlib.Core.Path.{_≡_, sym, ap, _∙_}
+use mathlib.Core.List.{List, _++_, append-assoc}
+use mathlib.Core.Bool.{true, false, _&&_}
 use native.Mathlib.Omega.{arith}
 use lib.Dec.{eqb}
 use lib.ListN.{length, take, drop, length-append, length-drop, take-append-drop}
@@ -16,9 +16,9 @@ use Rattle.wire.proofs.Written.{Bytes}
 use Rattle.symbol.proofs.Text.{bytes-drop, and-left, and-right}
 use Rattle.book.specs.Layout.{rowOk, eventOk, eventCount, rowCount, textLength, offsetsOk, tablesOk, partsOk, bookLayout}
 use Rattle.book.specs.Event.{eventsIn, rowsIn, textOf}
-use Rattle.recovery.proofs.BookCounts.{Counts, sound-counts}
+use Rattle.recovery.proofs.BookCounts.{sound-counts}
 use Rattle.join.specs.Join.{bookOf, each, movedRow, movedEvent, joined, joinedLength, tooLarge}
-use Rattle.rounds.proofs.BookOf.{Small, small, Reads, length-book, book-reads, book-sound}
+use Rattle.rounds.proofs.BookOf.{small, Reads, length-book, book-reads, book-sound}
 use Rattle.rounds.proofs.MovedTables.{bytes-append, bytes-take, bytes-number, every-near, every-append, every-take, every-more, every-moved, length-each, bytes-each}
 use Rattle.rounds.proofs.MovedEvents.{row-near, row-more, length-row, bytes-row, row-ok-moved, event-near, event-more, length-event, bytes-event, event-ok-moved}
 
@@ -43,9 +43,9 @@ unfolding tablesOk offsetsOk
 book-size s h =
     eqb-true (length s) (24 + 240 * eventCount s + 64 * rowCount s + textLength s)
     (and-right
-      (eqb (le 4 (drop 4 s)) 24 && eqb (le 4 (drop 12 s)) (24 + 240 * eventCount s) && eqb (le 4 (drop 20 s)) (24 + 240 * eventCount s + 64 * rowCount s))
-      (eqb (length s) (24 + 240 * eventCount s + 64 * rowCount s + textLength s))
-      h)
+    (eqb (le 4 (drop 4 s)) 24 && eqb (le 4 (drop 12 s)) (24 + 240 * eventCount s) && eqb (le 4 (drop 20 s)) (24 + 240 * eventCount s + 64 * rowCount s))
+    (eqb (length s) (24 + 240 * eventCount s + 64 * rowCount s + textLength s))
+    h)
 
 laid-parts : (s : List ℕ) → partsOk s ≡ true → Laid s
 unfolding partsOk
@@ -96,7 +96,7 @@ module _ (a b : List ℕ) (k : ℕ) (la : Laid a) (lb : Laid b) where
   unfolding joined
   length-joined =
       length-book (eventCount a + k) (rowCount a + rowCount b) (eventBytes a ++ addedEvents a b k) (rowBytes a ++ addedRows a b) (textOf a ++ textOf b)
-        event-size row-size
+      event-size row-size
       ∙ omega (arith, text-size)
 
   module _ (fits : tooLarge (joinedLength a b k) (eventCount a + k) (rowCount a + rowCount b) ≡ false) where
@@ -139,19 +139,19 @@ module _ (a b : List ℕ) (k : ℕ) (la : Laid a) (lb : Laid b) where
           let near = event-near (rowCount a + rowCount b) (textLength a + textLength b) in
           let own : every (eventOk (rowCount a) (textLength a)) 240 (eventCount a) (eventBytes a) ≡ true =
           sym (every-near (eventOk (rowCount a) (textLength a)) 240 (event-near (rowCount a) (textLength a)) (eventCount a) (eventBytes a) (rowsIn a)
-              (omega (arith, la .eventSize)))
+          (omega (arith, la .eventSize)))
           ∙ ap (every (eventOk (rowCount a) (textLength a)) 240 (eventCount a)) (sym (la .eventSplit))
           ∙ la .events in
           rw (text-size, append-assoc (eventBytes a) (addedEvents a b k) rest)
           (every-append ok 240 near (eventCount a) k (eventBytes a) (addedEvents a b k ++ rest) (la .eventSize)
-            (every-more (eventOk (rowCount a) (textLength a)) 240 ok
-              (λ (s : List ℕ). event-more (rowCount a) (textLength a) (rowCount a + rowCount b) (textLength a + textLength b) s (omega arith) (omega arith))
-              (eventCount a) (eventBytes a) own)
-            (every-moved (movedEvent (textLength a) (rowCount a)) 240 (length-event (textLength a) (rowCount a)) (eventOk (rowCount b) (textLength b)) ok
-              (event-ok-moved (rowCount b) (textLength b) (rowCount a + rowCount b) (textLength a + textLength b) (textLength a) (rowCount a)
-                (omega (arith, below)) (omega (arith, below, text-size)) (omega arith) (omega arith))
-              k (eventsIn b) rest (bytes-drop 24 b bytes)
-              (every-take (eventOk (rowCount b) (textLength b)) 240 k (eventCount b) (eventsIn b) most (lb .events))))
+          (every-more (eventOk (rowCount a) (textLength a)) 240 ok
+          (λ (s : List ℕ). event-more (rowCount a) (textLength a) (rowCount a + rowCount b) (textLength a + textLength b) s (omega arith) (omega arith))
+          (eventCount a) (eventBytes a) own)
+          (every-moved (movedEvent (textLength a) (rowCount a)) 240 (length-event (textLength a) (rowCount a)) (eventOk (rowCount b) (textLength b)) ok
+          (event-ok-moved (rowCount b) (textLength b) (rowCount a + rowCount b) (textLength a + textLength b) (textLength a) (rowCount a)
+          (omega (arith, below)) (omega (arith, below, text-size)) (omega arith) (omega arith))
+          k (eventsIn b) rest (bytes-drop 24 b bytes)
+          (every-take (eventOk (rowCount b) (textLength b)) 240 k (eventCount b) (eventsIn b) most (lb .events))))
 
       rows-pass : every (rowOk (rowCount a + rowCount b) (length (textOf a ++ textOf b))) 64 (rowCount a + rowCount b)
           ((rowBytes a ++ addedRows a b) ++ (textOf a ++ textOf b)) ≡ true
@@ -161,18 +161,18 @@ module _ (a b : List ℕ) (k : ℕ) (la : Laid a) (lb : Laid b) where
           let near = row-near (rowCount a + rowCount b) (textLength a + textLength b) in
           let own : every (rowOk (rowCount a) (textLength a)) 64 (rowCount a) (rowBytes a) ≡ true =
           sym (every-near (rowOk (rowCount a) (textLength a)) 64 (row-near (rowCount a) (textLength a)) (rowCount a) (rowBytes a) (textOf a)
-              (omega (arith, la .rowSize)))
+          (omega (arith, la .rowSize)))
           ∙ ap (every (rowOk (rowCount a) (textLength a)) 64 (rowCount a)) (sym (la .rowSplit))
           ∙ la .rows in
           rw (text-size, append-assoc (rowBytes a) (addedRows a b) rest)
           (every-append ok 64 near (rowCount a) (rowCount b) (rowBytes a) (addedRows a b ++ rest) (la .rowSize)
-            (every-more (rowOk (rowCount a) (textLength a)) 64 ok
-              (λ (s : List ℕ). row-more (rowCount a) (textLength a) (rowCount a + rowCount b) (textLength a + textLength b) s (omega arith) (omega arith))
-              (rowCount a) (rowBytes a) own)
-            (every-moved (movedRow (textLength a)) 64 (length-row (textLength a)) (rowOk (rowCount b) (textLength b)) ok
-              (row-ok-moved (rowCount b) (textLength b) (rowCount a + rowCount b) (textLength a + textLength b) (textLength a)
-                (omega (arith, below)) (omega (arith, below, text-size)) (omega arith) (omega arith))
-              (rowCount b) (rowsIn b) rest (bytes-drop (24 + 240 * eventCount b) b bytes) (lb .rows)))
+          (every-more (rowOk (rowCount a) (textLength a)) 64 ok
+          (λ (s : List ℕ). row-more (rowCount a) (textLength a) (rowCount a + rowCount b) (textLength a + textLength b) s (omega arith) (omega arith))
+          (rowCount a) (rowBytes a) own)
+          (every-moved (movedRow (textLength a)) 64 (length-row (textLength a)) (rowOk (rowCount b) (textLength b)) ok
+          (row-ok-moved (rowCount b) (textLength b) (rowCount a + rowCount b) (textLength a + textLength b) (textLength a)
+          (omega (arith, below)) (omega (arith, below, text-size)) (omega arith) (omega arith))
+          (rowCount b) (rowsIn b) rest (bytes-drop (24 + 240 * eventCount b) b bytes) (lb .rows)))
 
       pub joined-sound : bookLayout (joined a b k) ≡ L.Sound
       unfolding joined
@@ -186,16 +186,18 @@ bytes-book n m events rows text e r t =
     let number : (x : ℕ) → Bytes (bytesOf 4 x) = bytes-number 4 in
     bytes-append
     (bytes-append
-      (bytes-append (bytes-append (bytes-append (bytes-append (number n) (number 24)) (number m)) (number (24 + 240 * n))) (number (length text)))
-      (number (24 + 240 * n + 64 * m)))
+    (bytes-append (bytes-append (bytes-append (bytes-append (number n) (number 24)) (number m)) (number (24 + 240 * n))) (number (length text)))
+    (number (24 + 240 * n + 64 * m)))
     (bytes-append e (bytes-append r t))
 
 pub bytes-joined : (a b : List ℕ) (k : ℕ) → Bytes a → Bytes b → Bytes (joined a b k)
 unfolding joined
 bytes-joined a b k p q =
+    let d = textLength a in
+    let n = rowCount a in
     bytes-book (eventCount a + k) (rowCount a + rowCount b) (eventBytes a ++ addedEvents a b k) (rowBytes a ++ addedRows a b) (textOf a ++ textOf b)
     (bytes-append (bytes-take (240 * eventCount a) (eventsIn a) (bytes-drop 24 a p))
-      (bytes-each (movedEvent (textLength a) (rowCount a)) 240 (length-event (textLength a) (rowCount a)) (bytes-event (textLength a) (rowCount a)) k (eventsIn b)))
-    (bytes-append (bytes-take (64 * rowCount a) (rowsIn a) (bytes-drop (24 + 240 * eventCount a) a p))
-      (bytes-each (movedRow (textLength a)) 64 (length-row (textLength a)) (bytes-row (textLength a)) (rowCount b) (rowsIn b)))
-    (bytes-append (bytes-drop (24 + 240 * eventCount a + 64 * rowCount a) a p) (bytes-drop (24 + 240 * eventCount b + 64 * rowCount b) b q))
+    (bytes-each (movedEvent d n) 240 (length-event d n) (bytes-event d n) k (eventsIn b)))
+    (bytes-append (bytes-take (64 * n) (rowsIn a) (bytes-drop (24 + 240 * eventCount a) a p))
+    (bytes-each (movedRow d) 64 (length-row d) (bytes-row d) (rowCount b) (rowsIn b)))
+    (bytes-append (bytes-drop (24 + 240 * eventCount a + 64 * n) a p) (bytes-drop (24 + 240 * eventCount b + 64 * rowCount b) b q))

@@ -2,7 +2,7 @@
 -- Assumes nothing.
 use Prim.Native.Nat.{ℕ, _+_, _*_}
 use mathlib.Core.Path.{_≡_, refl}
-use mathlib.Core.List.{List, [], _∷_, _++_}
+use mathlib.Core.List.{List, [], _∷_, _++_, map}
 use lib.IntN.{pos}
 use lib.ListN.{length}
 use Rattle.wire.specs.Le.{le, bytesOf, sameBytes}
@@ -19,13 +19,14 @@ use Rattle.join.specs.Join.{bookOf, each, movedCell, movedRow, movedEvent, join
 use Rattle.intents.specs.Intents.{entryBytes, entryTable, entryText, entryTexts, addendum}
 use Rattle.intents.specs.declared.Chosen.the-variants as C
 use Rattle.rounds.proofs.Entries.{entryEvents}
+use Rattle.rounds.proofs.JoinEvents.{movedRefs}
 
--- a log whose diff has one row, of `AB`, and an intent of it
+-- a log whose diff has one row, of `AB` with the action `B`, and an intent of it
 log : List ℕ
 log =
     bookBytes
     (numberedWith "diff_computed" 1 10 (part 6 0x1_0000_0000) ∷ numberedWith "order_intent" 2 0 (part 4 0x2_0000_0000) ∷ [])
-    ((part 4 0x2_0000_0000 ∷ part 0 0 ∷ part 1 5 ∷ part 0 0 ∷ []) ∷ [])
+    ((part 4 0x2_0000_0000 ∷ part 4 0x1_0000_0001 ∷ part 1 5 ∷ part 0 0 ∷ []) ∷ [])
     (65 ∷ 66 ∷ [])
 
 y : Symbol
@@ -39,7 +40,7 @@ entry-sound : bookLayout entry ≡ L.Sound
 unfolding entry y addendum bookOf entryTable entryTexts entryBytes entryText bytesOf le eventName bookLayout partsOk tablesOk offsetsOk every eventOk eventHeadOk headOk windowOk cellOk payloadOk rowOk rowCellOk
 entry-sound = refl
 
--- joined whole, and cut to nothing: the log's events, the entry behind them, and both texts
+-- joined whole, and cut to none: the log's events, the entry behind them, and both texts
 whole-events : eventsOf (joined log entry 1) ≡ eventsOf log ++ entryEvents C.Nothing (pos 7) 3 (length (textOf log)) (y ∷ [])
 unfolding log entry y bookBytes eventTable addendum bookOf entryTable entryTexts entryBytes entryText bytesOf le encoded records cellOf cellBy named namedAmong checkpoints eventName sameBytes joined each movedCell movedRow movedEvent entryEvents
 whole-events = refl
@@ -55,3 +56,8 @@ cut-events = refl
 cut-text : textOf (joined log entry 0) ≡ textOf log ++ textOf entry
 unfolding log entry y bookBytes eventTable addendum bookOf entryTable entryTexts entryBytes entryText bytesOf le encoded joined each movedCell movedRow movedEvent eventName
 cut-text = refl
+
+-- a log joined to itself: the second time its references, a row's too, stand 27 bytes on
+twice : eventsOf (joined log log 2) ≡ eventsOf log ++ map (movedRefs 27) (eventsOf log)
+unfolding log bookBytes eventTable bookOf bytesOf le encoded records cellOf cellBy named namedAmong checkpoints eventName sameBytes joined each movedCell movedRow movedEvent
+twice = refl

@@ -1,5 +1,4 @@
 pub mod Entries
-pub mod JoinExamples
 pub mod BookOf
 pub mod MovedTables
 pub mod MovedCells
@@ -9,3 +8,4 @@ pub mod JoinEvents
 pub mod EntryBytes
 pub mod AddendumBook
 pub mod Joined
+pub mod JoinExamples

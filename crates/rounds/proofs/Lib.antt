@@ -1,4 +1,14 @@
 pub mod Entries
+pub mod BookOf
+pub mod MovedTables
+pub mod MovedCells
+pub mod MovedEvents
+pub mod JoinLayout
+pub mod JoinEvents
+pub mod EntryBytes
+pub mod AddendumBook
+pub mod Joined
+pub mod JoinExamples
 pub mod Settling
 pub mod Progress
 pub mod Ending

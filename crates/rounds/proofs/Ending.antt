@@ -24,7 +24,9 @@ use Rattle.effects.specs.Step.{asFailed}
 use Rattle.state.specs.State.{sameInt, readFlags, textOr, sameTexts, sameOrder, sameLists}
 use Rattle.intents.specs.declared.Chosen.{Chosen}
 use Rattle.intents.specs.declared.Chosen.the-variants as C
-use Rattle.rounds.proofs.Settling.{by-bool, settle, Reads, same-refl, text-more}
+use Rattle.rounds.proofs.JoinEvents.{text-kept}
+use Rattle.rounds.proofs.MovedTables.{and-both}
+use Rattle.rounds.proofs.Settling.{by-bool, settle, Reads, same-refl}
 use Rattle.rounds.proofs.Progress.{Prog, done, keep, shut}
 
 -- ---- references within a text of n bytes
@@ -42,16 +44,13 @@ pub record RefsIn (n : ℕ) (o : Order) : Type 0 where
 
 -- they read the same whatever stands behind the text
 ref-same : (s t u : List ℕ) (r : TextRef) → RefIn (length s) r → textIn (s ++ t) r ≡ textIn (s ++ u) r
-ref-same s t u r h = text-more s t (r .first) (r .len) h ∙ sym (text-more s u (r .first) (r .len) h)
+ref-same s t u r h = text-kept s t r h ∙ sym (text-kept s u r h)
 
 str-same : (s t u : List ℕ) (a : AsStr) → StrIn (length s) a → textOr (s ++ t) a ≡ textOr (s ++ u) a
 str-same s t u (Str.Is r) h = ref-same s t u r h
 str-same s t u Str.Nothing h = refl
 
 -- ---- equal fields make equal orders
-pub and-both : {a b : Bool} → a ≡ true → b ≡ true → (a && b) ≡ true
-and-both p q = rw (p, q)
-
 bytes-self : (t : List ℕ) → sameBytes t t ≡ true
 unfolding sameBytes
 bytes-self [] = refl

@@ -38,7 +38,7 @@ pub record Laid (s : List ℕ) : Type 0 where
   pub eventSplit : eventsIn s ≡ eventBytes s ++ rowsIn s
   pub rowSplit : rowsIn s ≡ rowBytes s ++ textOf s
 
-book-size : (s : List ℕ) → tablesOk s ≡ true → length s ≡ 24 + 240 * eventCount s + 64 * rowCount s + textLength s
+pub book-size : (s : List ℕ) → tablesOk s ≡ true → length s ≡ 24 + 240 * eventCount s + 64 * rowCount s + textLength s
 unfolding tablesOk offsetsOk
 book-size s h =
     eqb-true (length s) (24 + 240 * eventCount s + 64 * rowCount s + textLength s)

@@ -17,7 +17,8 @@ pub mod Accepted
 pub mod Spelling
 pub mod SoundBook
 pub mod Calls
-pub mod Laws
+pub mod EntriesJoined
 pub mod Leading
+pub mod OneRound
 pub mod Theorem
 pub mod RoundExamples

@@ -35,6 +35,7 @@ use Rattle.intents.specs.Intents.{symbolText, entryName, reasonText, cellBytes}
 use Rattle.intents.specs.declared.Chosen.{Chosen}
 use Rattle.intents.specs.declared.Chosen.the-variants as C
 use Rattle.rounds.specs.Demand3.{hasSymbol, Follow, Small}
+use Rattle.rounds.proofs.JoinEvents.{text-kept}
 use Rattle.rounds.proofs.Entries.{Texted, entryId, entryReason, entryEvent}
 
 pub by-bool {ℓ} : {X : Type ℓ} (b : Bool) → (b ≡ true → X) → (b ≡ false → X) → X
@@ -74,16 +75,11 @@ pub settle-symbol : (c : Chosen) (a : AsStr) (o : Order) → settle c a o .symbo
 settle-symbol (C.Is id) a o = refl
 settle-symbol C.Nothing a o = refl
 
--- a text within another reads the same where more stands behind
-pub text-more : (s t : List ℕ) (first len : ℕ) → first + len ≤ length s → take len (drop first (s ++ t)) ≡ take len (drop first s)
-text-more s t first len h =
-    let l : len ≤ length (drop first s) = rw length-drop (omega arith) in
-    rw (drop-append-le first s t (omega arith), take-append-le len (drop first s) t l)
-
+-- it does so where more stands behind the text
 pub reads-more : (c : Chosen) (s t : List ℕ) (a : AsStr) → Reads c s a → Reads c (s ++ t) a
 reads-more (C.Is id) s t a h = tt
 reads-more C.Nothing s t Str.Nothing h = h
-reads-more C.Nothing s t (Str.Is r) h = (omega (arith, length-append s t, h .0), text-more s t (r .first) (r .len) (h .0) ∙ h .1)
+reads-more C.Nothing s t (Str.Is r) h = (omega (arith, length-append s t, h .0), text-kept s t r (h .0) ∙ h .1)
 
 -- ---- symbols
 pub same-sym : (y z : Symbol) → sameSymbol y z ≡ sameSymbol z y

@@ -31,6 +31,9 @@ use Rattle.effects.proofs.CellFits.{str-fits, whole-fits}
 use Rattle.recovery.specs.Recover.{firstState}
 use Rattle.recovery.proofs.BookCounts.{every-at, event-cell, sound-counts}
 use Rattle.rounds.specs.Demand3.{recovered}
+use Rattle.rounds.proofs.JoinLayout.{laid, book-size}
+use Rattle.rounds.proofs.MovedCells.{row-cell}
+use Rattle.rounds.proofs.MovedTables.{bytes-take, every-from}
 use Rattle.rounds.proofs.Ending.{StrIn}
 use Rattle.rounds.proofs.Stepping.{steps-orders}
 use Rattle.rounds.proofs.Spelling.{Good, GoodStr, TextBytes, GoodRow, GoodRows, GoodEvent, after-good}
@@ -74,27 +77,20 @@ str-good : (rows text : ℕ) (s : List ℕ) → Bytes s → cellOk rows text s �
 str-good rows text s b e = record { fits = str-fits s b; within = str-within rows text s e }
 
 -- ---- the texts of cells are bytes
-bytes-take : (n : ℕ) (s : List ℕ) → Bytes s → Bytes (take n s)
-bytes-take zero s b = Byte.none
-bytes-take (suc n) [] Byte.none = Byte.none
-bytes-take (suc n) (x ∷ s) (Byte.more p b) = Byte.more p (bytes-take n s b)
-
 text-good : (text : List ℕ) (a : AsStr) → Bytes text → TextBytes (bytesOfText text a)
 text-good text (Str.Is r) b = bytes-take (r .len) (drop (r .first) text) (bytes-drop (r .first) text b)
 text-good text Str.Nothing b = tt
 
 -- ---- rows
-row-cell : (rows text : ℕ) (r : List ℕ) (i : ℕ) → rowOk rows text r ≡ true → i < 4 → cellOk rows text (drop (16 * i) r) ≡ true
-unfolding rowOk rowCellOk
-row-cell rows text r i h l =
-    let s = drop (16 * i) r in
-    and-right (not (eqb (le 8 s) 6)) (cellOk rows text s) (every-at (rowCellOk rows text) 16 4 r i h l)
+row-cell-at : (rows text : ℕ) (r : List ℕ) (i : ℕ) → rowOk rows text r ≡ true → i < 4 → cellOk rows text (drop (16 * i) r) ≡ true
+unfolding rowOk
+row-cell-at rows text r i h l = row-cell rows text (drop (16 * i) r) (every-at (rowCellOk rows text) 16 4 r i h l)
 
 row-good : (rows : ℕ) (text r : List ℕ) (n : ℕ) → Bytes text → Bytes r → rowOk rows n r ≡ true → GoodRow n (rowOf text r)
 row-good rows text r n bt br h =
     record {
       symbol = text-good text (asStr (cellOf r)) bt;
-      action = str-good rows n (drop 16 r) (bytes-drop 16 r br) (row-cell rows n r 1 h (omega arith));
+      action = str-good rows n (drop 16 r) (bytes-drop 16 r br) (row-cell-at rows n r 1 h (omega arith));
       amount = whole-fits (drop 32 r) (bytes-drop 32 r br);
     }
 
@@ -106,30 +102,11 @@ rows-good rows text n bt (suc k) s b h =
     Of.more (row-good rows text s n bt b (and-left (rowOk rows n s) _ h))
     (rows-good rows text n bt k (drop 64 s) (bytes-drop 64 s b) (and-right (rowOk rows n s) (every (rowOk rows n) 64 k (drop 64 s)) h))
 
--- a part of a table that passes a test passes it
-every-front : (f : List ℕ → Bool) (w k m : ℕ) (s : List ℕ) → every f w (k + m) s ≡ true → every f w k s ≡ true
-unfolding every
-every-front f w zero m s h = refl
-every-front f w (suc k) m s h =
-    let e : every f w (suc (k + m)) s ≡ true = rw suc-add at h in
-    rw (and-left (f s) (every f w (k + m) (drop w s)) e, every-front f w k m (drop w s) (and-right (f s) (every f w (k + m) (drop w s)) e))
-
-every-part : (f : List ℕ → Bool) (w first k m : ℕ) (s : List ℕ) → every f w (first + k + m) s ≡ true → every f w k (drop (w * first) s) ≡ true
-unfolding every
-every-part f w zero k m s h = let e : every f w (k + m) s ≡ true = rw zero-add at h in rw mul-zero (every-front f w k m s e)
-every-part f w (suc first) k m s h =
-    let q : suc first + k + m ≡ suc (first + k + m) = omega arith in
-    let e : every f w (suc (first + k + m)) s ≡ true = rw q at h in
-    let d : w * suc first ≡ w + w * first = rw mul-suc (omega arith) in
-    rw (d, ← drop-drop (w * first) w s) (every-part f w first k m (drop w s) (and-right (f s) (every f w (first + k + m) (drop w s)) e))
-
 array-good : (rows : ℕ) (table text : List ℕ) (n : ℕ) → Bytes text → Bytes table → every (rowOk rows n) 64 rows table ≡ true
     → (a : AsArray) → ArrayIn rows a → GoodRows n (rowsOf table text a)
 array-good rows table text n bt br h A.Nothing q = tt
 array-good rows table text n bt br h (A.Is first count) q =
-    let m : rows ≡ first + count + (rows - (first + count)) = omega arith in
-    rows-good rows text n bt count (drop (64 * first) table) (bytes-drop (64 * first) table br)
-    (every-part (rowOk rows n) 64 first count (rows - (first + count)) table (subst (λ (k : ℕ). every (rowOk rows n) 64 k table ≡ true) m h))
+    rows-good rows text n bt count (drop (64 * first) table) (bytes-drop (64 * first) table br) (every-from (rowOk rows n) 64 first count rows table q h)
 
 -- ---- events
 cell-at : (rows text : ℕ) (e : List ℕ) (i : ℕ) → eventOk rows text e ≡ true → i < 13 → cellOk rows text (drop (32 + 16 * i) e) ≡ true
@@ -155,37 +132,22 @@ module _ (rows : ℕ) (table text : List ℕ) (n : ℕ) (bt : Bytes text) (br : 
       (events-good k (drop 240 s) (bytes-drop 240 s b) (and-right (eventOk rows n s) (every (eventOk rows n) 240 k (drop 240 s)) h))
 
 -- ---- the book
-pub record SoundBook (s : List ℕ) : Type 0 where
-  pub tables : tablesOk s ≡ true
-  pub events : every (eventOk (rowCount s) (textLength s)) 240 (eventCount s) (eventsIn s) ≡ true
-  pub rows : every (rowOk (rowCount s) (textLength s)) 64 (rowCount s) (rowsIn s) ≡ true
-
-pub sound-book : (s : List ℕ) → bookLayout s ≡ L.Sound → SoundBook s
-unfolding partsOk
-sound-book s h =
-    let p = sound-counts s h .parts in
-    let events = every (eventOk (rowCount s) (textLength s)) 240 (eventCount s) (drop 24 s) in
-    let rows = every (rowOk (rowCount s) (textLength s)) 64 (rowCount s) (drop (24 + 240 * eventCount s) s) in
-    let q = and-left (tablesOk s && events) rows p in
-    record { tables = and-left (tablesOk s) events q; events = and-right (tablesOk s) events q; rows = and-right (tablesOk s && events) rows p }
-
 pub book-length : (s : List ℕ) → bookLayout s ≡ L.Sound → length s ≡ 24 + 240 * eventCount s + 64 * rowCount s + textLength s
-unfolding tablesOk offsetsOk
+unfolding partsOk
 book-length s h =
-    let n = 24 + 240 * eventCount s + 64 * rowCount s + textLength s in
-    let first =
-    eqb (le 4 (drop 4 s)) 24 && eqb (le 4 (drop 12 s)) (24 + 240 * eventCount s) && eqb (le 4 (drop 20 s)) (24 + 240 * eventCount s + 64 * rowCount s) in
-    eqb-true (length s) n (and-right first (eqb (length s) n) (sound-book s h .tables))
+    let events = every (eventOk (rowCount s) (textLength s)) 240 (eventCount s) (eventsIn s) in
+    let rows = every (rowOk (rowCount s) (textLength s)) 64 (rowCount s) (rowsIn s) in
+    book-size s (and-left (tablesOk s) events (and-left (tablesOk s && events) rows (sound-counts s h .parts)))
 
 pub text-length : (s : List ℕ) → bookLayout s ≡ L.Sound → length (textOf s) ≡ textLength s
-text-length s h = length-drop (24 + 240 * eventCount s + 64 * rowCount s) s ∙ omega (arith, book-length s h)
+text-length s h = laid s h .text
 
 pub events-count : (s : List ℕ) → length (eventsOf s) ≡ eventCount s
 events-count s = length-records (eventOf (rowsIn s) (textOf s)) 240 (eventCount s) (eventsIn s)
 
 pub orders-good : (s : List ℕ) → Bytes s → bookLayout s ≡ L.Sound → Each (Good (textLength s)) (recovered s .orders)
 orders-good s b h =
-    let k = sound-book s h in
+    let k = laid s h in
     let bt = bytes-drop (24 + 240 * eventCount s + 64 * rowCount s) s b in
     let br = bytes-drop (24 + 240 * eventCount s) s b in
     let es = events-good (rowCount s) (rowsIn s) (textOf s) (textLength s) bt br (k .rows) (eventCount s) (eventsIn s) (bytes-drop 24 s b) (k .events) in

@@ -30,7 +30,7 @@ use Rattle.intents.specs.declared.Chosen.{Chosen}
 use Rattle.intents.specs.declared.Chosen.the-variants as C
 use Rattle.rounds.specs.Demand3.{recovered, numberAfter, lastNumber}
 use Rattle.rounds.proofs.Entries.{entryCheckpoint, entryEvent}
-use Rattle.rounds.proofs.Ending.{and-both}
+use Rattle.rounds.proofs.MovedTables.{and-both}
 use Rattle.rounds.proofs.Settling.{Written, end, more, ordersAfter, same-refl}
 
 -- ---- orders and positions go by themselves

@@ -33,13 +33,16 @@ use Rattle.rounds.specs.Rounds.{Round, Outcome, joinRound, roundOf, next
 use Rattle.rounds.specs.Demand3.{recovered, openIntents, NoRepeat, lastNumber, added, isEntry, Follow, done, passes, Whole, answered, Small, OneList, Fewer, Uncut, sameRecovered, Demand3}
 use Rattle.rounds.proofs.Settling.{by-bool, Written, written-length, written-follow}
 use Rattle.rounds.proofs.Progress.{Prog, prog-distinct, weight-none, among-weight, reached-all, tally, tally-one, written-hits, textWeight, texts-length}
-use Rattle.rounds.proofs.Ending.{RefsIn, and-both, ends-same}
+use Rattle.rounds.proofs.Ending.{RefsIn, ends-same}
 use Rattle.rounds.proofs.Stepping.{steps-number, timeless, noted, marks-same, positions-self}
 use Rattle.rounds.proofs.Accepted.{book-accepted}
 use Rattle.rounds.proofs.SoundBook.{book-length, text-length, orders-good}
 use Rattle.rounds.proofs.Calls.{each-map, round-refused, roundSymbols, First, Second, Third, third-done, third-log, third-addendum, stages, passed}
-use Rattle.rounds.proofs.Laws.{Laws, add-length}
-use Rattle.rounds.proofs.Leading.{Led, led-marks, led-positions, led-total, led-count, led-refl, led-trans, chosenAddendum, addendum-same, reached-open, entered, joins, joined-count, led-join}
+use Rattle.rounds.proofs.AddendumBook.{length-addendum}
+use Rattle.rounds.proofs.EntriesJoined.{add-sound, add-entries, add-no-rows, add-texts}
+use Rattle.rounds.proofs.Leading.{Led, led-marks, led-positions, led-total, led-count, led-refl, led-trans}
+use Rattle.rounds.proofs.OneRound.{Shows, chosenAddendum, addendum-same, reached-open, entered, next-count, whole-count, led-next, round-fewer}
+use Rattle.rounds.proofs.MovedTables.{and-both}
 
 -- ---- a sound book is not too large
 size-by : (a : Bool) (l : Layout) → oversizeIf a l ≡ L.Sound → a ≡ false
@@ -80,77 +83,27 @@ by-zero : (n : ℕ) → (0 < n → ⊥) → n ≡ 0
 by-zero zero h = refl
 by-zero (suc n) h = absurd (h (omega arith))
 
-module _ (laws : Laws) (broker : List BrokerOrderStatus) (small : Small (chosen broker)) where
-  -- ---- one round
-  module _ (r : Round) (x : List ℕ) (bx : Bytes x) (sx : bookLayout x ≡ L.Sound) where
-    -- the addendum with the broker's choice
-    abbrev chosenBy : List ℕ
-    chosenBy = chosenAddendum laws broker small r x bx sx
-
-    -- a round that passes, with the broker's choice
-    record Round3 : Type 0 where
-      second : Second r x
-      third : Third r x chosenBy
-      is : roundOf r x ≡ joinRound r x chosenBy
-
-    round-parts : (answered r x ≡ true → sheetOrders (r .sheet) ≡ broker) → passes r x ≡ true → Round3
-    round-parts one h =
-        let p = passed r x (textLength x) sx (orders-good x bx sx) h in
-        let e = addendum-same laws broker small r x bx sx one in
-        record { second = p .second; third = subst (Third r x) e (p .third); is = p .is ∙ ap (joinRound r x) e }
-
-    next-is : (one : answered r x ≡ true → sheetOrders (r .sheet) ≡ broker) → (p : Round3) → next r x ≡ joined x chosenBy (r .k)
-    next-is one p =
-        ap (λ (o : Outcome). o .log) (p .is)
-        ∙ third-log r x chosenBy sx (p .third) (laws .joinLength (joins laws broker small r x bx sx one (p .second) (p .third)))
-
-    pub led-next : NoRepeat (recovered x .orders) → (passes r x ≡ true → answered r x ≡ true → sheetOrders (r .sheet) ≡ broker)
-        → Led (chosen broker) x (next r x)
-    led-next d one =
-        by-bool (passes r x)
-        (λ h.
-        let p = round-parts (one h) h in
-        subst (Led (chosen broker) x) (sym (next-is (one h) p)) (led-join laws broker small r x bx sx d (one h) (p .second) (p .third)))
-        (λ h. subst (Led (chosen broker) x) (sym (round-refused r x h)) (led-refl x bx sx))
-
-    -- so many events more, where it passes
-    next-count : (one : answered r x ≡ true → sheetOrders (r .sheet) ≡ broker) → NoRepeat (recovered x .orders) → passes r x ≡ true
-        → eventCount (next r x) ≡ eventCount x + r .k
-    next-count one d h =
-        let p = round-parts one h in
-        ap eventCount (next-is one p) ∙ joined-count laws broker small r x bx sx d one (p .second) (p .third)
-
-    -- written whole, it adds an entry for each symbol reached
-    whole-count : (answered r x ≡ true → sheetOrders (r .sheet) ≡ broker) → passes r x ≡ true → Whole r x → r .k ≡ length (roundSymbols r x)
-    whole-count one h w =
-        let p = round-parts one h in
-        w ∙ ap (λ (o : Outcome). eventCount (o .addendum)) (p .is) ∙ ap eventCount (third-addendum r x chosenBy)
-        ∙ laws .addCount (entered laws broker small r x bx sx one (p .second))
-
-    pub round-fewer : NoRepeat (recovered x .orders) → (passes r x ≡ true → answered r x ≡ true → sheetOrders (r .sheet) ≡ broker)
-        → passes r x ≡ true → Whole r x → answered r x ≡ true → openIntents (next r x) < openIntents x
-    round-fewer d one h w a =
-        let l = led-next d one in
-        let n = ltb-true 0 (length (roundSymbols r x)) a in
-        omega (arith, led-total l, led-count l, next-count (one h) d h, whole-count (one h) h w)
-
-  -- ---- every list of rounds
+-- ---- every list of rounds
+module _ (broker : List BrokerOrderStatus) (small : Small (chosen broker)) where
   led-run : (rs : List Round) (x : List ℕ) → Bytes x → bookLayout x ≡ L.Sound → NoRepeat (recovered x .orders) → OneList broker rs x
       → Led (chosen broker) x (run rs x)
   unfolding run
   led-run [] x bx sx d one = led-refl x bx sx
   led-run (r ∷ rs) x bx sx d one =
-      let l = led-next r x bx sx d (one .0) in
+      let l = led-next broker small r x bx sx d (one .0) in
       led-trans l (led-run rs (next r x) (l .bytes) (l .sound) (prog-distinct (l .prog) d) (one .1))
 
   run-fewer : (rs : List Round) (x : List ℕ) → Bytes x → bookLayout x ≡ L.Sound → NoRepeat (recovered x .orders) → OneList broker rs x → Fewer rs x
   run-fewer [] x bx sx d one = tt
   run-fewer (r ∷ rs) x bx sx d one =
-      let l = led-next r x bx sx d (one .0) in
-      (round-fewer r x bx sx d (one .0), run-fewer rs (next r x) (l .bytes) (l .sound) (prog-distinct (l .prog) d) (one .1))
+      let l = led-next broker small r x bx sx d (one .0) in
+      (round-fewer broker small r x bx sx d (one .0), run-fewer rs (next r x) (l .bytes) (l .sound) (prog-distinct (l .prog) d) (one .1))
 
   -- ---- the uncut round, once some list of rounds left none open
   module _ (x : List ℕ) (bx : Bytes x) (sx : bookLayout x ≡ L.Sound) (u : Round) (c : Uncut broker x u) where
+    shows : Shows broker u x
+    shows a = c .list
+
     uncut-reached : length (roundSymbols u x) ≡ openIntents x
     uncut-reached =
         ap (λ (b : Bool). length (reached b (recovered x .orders) (u .queries))) (c .up)
@@ -164,7 +117,7 @@ module _ (laws : Laws) (broker : List BrokerOrderStatus) (small : Small (chosen 
         omega (
           arith,
           texts-length (chosen broker) (roundSymbols u x),
-          among-weight w (reached-open laws broker small u x bx sx),
+          among-weight w (reached-open u x),
           l .weight w,
           weight-none w (recovered y .orders) e,
           l .enough,
@@ -174,16 +127,15 @@ module _ (laws : Laws) (broker : List BrokerOrderStatus) (small : Small (chosen 
           length-append (textOf x) (l .texts),
         )
 
+    -- so it is not refused, where something was open
     uncut-ok : {y : List ℕ} → Led (chosen broker) x y → openIntents y ≡ 0 → 0 < openIntents x → passes u x ≡ true
     uncut-ok {y} l e h =
-        let one : answered u x ≡ true → sheetOrders (u .sheet) ≡ broker = λ a. c .list in
         let p : (recovered x .marks .number + 1 + openIntents x < 2 ^ 64) × (64 * length (recovered x .orders) < ordersMost) =
         elim (l .space) [ inl n ↦ absurd (omega (arith, led-total l)) | inr p ↦ p ] in
-        let b = chosenBy u x bx sx in
-        let same = addendum-same laws broker small u x bx sx one in
+        let b = chosenAddendum broker u x in
+        let same = addendum-same broker u x shows in
         let ne : eventCount y ≡ eventCount x + openIntents x = led-count l ∙ omega (arith, led-total l) in
-        let nb : length b ≡ 24 + 240 * length (roundSymbols u x) + length (entryTexts (chosen broker) (roundSymbols u x)) =
-        add-length (chosen broker) (u .time) (recovered x .marks .number) (roundSymbols u x) in
+        let nb = length-addendum (chosen broker) (u .time) (recovered x .marks .number) (roundSymbols u x) in
         let ny = book-length y (l .sound) in
         let sy = sound-size y (l .sound) in
         let ky = sound-counts y (l .sound) in
@@ -200,53 +152,53 @@ module _ (laws : Laws) (broker : List BrokerOrderStatus) (small : Small (chosen 
           numbers = lt-ltb (recovered x .marks .number + 1 + openIntents x) (2 ^ 64) (p .0);
           size =
               subst (λ (a : List ℕ). tooLarge (length a) (length (roundSymbols u x)) 0 ≡ false) (sym same)
-              (not-large (length b) (length (roundSymbols u x)) 0 lb (omega (arith, ky .events)) (omega arith));
+              (not-large (length b) (length (roundSymbols u x)) 0 lb (omega arith) (omega arith));
           room = subst (λ (a : List ℕ). ltb (u .addendum) (length a) ≡ false) (sym same) (le-ltb (u .addendum) (length b) (omega (arith, c .addendum)));
         } in
         let is : roundOf u x ≡ joinRound u x b = stages u x (textLength x) sx (orders-good x bx sx) f q ∙ ap (joinRound u x) same in
-        let en = entered laws broker small u x bx sx one q in
+        let en = entered broker small u x bx sx shows q in
         let k : u .k ≡ eventCount b = c .whole ∙ ap (λ (o : Outcome). eventCount (o .addendum)) is ∙ ap eventCount (third-addendum u x b) in
-        let nc = laws .addCount en in
-        let rc = laws .addRows en in
-        let tc = laws .addText en in
+        let nc = add-entries en in
+        let rc = add-no-rows en in
+        let tc = add-texts en in
         let lj : joinedLength x b (u .k) ≤ 1048576 = omega arith in
         let t : Third u x b =
         record {
-          sound = laws .addSound en;
+          sound = add-sound en;
           count = le-ltb (eventCount b) (u .k) (omega arith);
-          size =
-              not-large (joinedLength x b (u .k)) (eventCount x + u .k) (rowCount x + rowCount b) lj (omega (arith, ky .events)) (omega (arith, ky .rows));
+          size = not-large (joinedLength x b (u .k)) (eventCount x + u .k) (rowCount x + rowCount b) lj (omega arith) (omega arith);
           room = le-ltb (u .joined) (joinedLength x b (u .k)) (omega (arith, c .joined));
         } in
         ap (λ (o : Outcome). done (o .answer)) is ∙ third-done u x b sx t
 
     uncut-end : {y : List ℕ} → NoRepeat (recovered x .orders) → Led (chosen broker) x y → openIntents y ≡ 0 → sameRecovered y (next u x) ≡ true
     uncut-end {y} d l e =
-        let one : answered u x ≡ true → sheetOrders (u .sheet) ≡ broker = λ a. c .list in
-        let m = led-next u x bx sx d (λ h. one) in
+        let m = led-next broker small u x bx sx d (λ h. shows) in
         led-same bx sx l m e
         (by-bool (passes u x)
-        (λ h. omega (arith, led-total m, led-count m, next-count u x bx sx one d h, whole-count u x bx sx one h (c .whole), uncut-reached))
-        (λ h. ap openIntents (round-refused u x h) ∙ by-zero (openIntents x) (λ z. true≢false (sym (uncut-ok l e z) ∙ h))))
+          (λ h.
+            omega (arith, led-total m, led-count m, next-count broker small u x bx sx shows h, whole-count broker small u x bx sx shows h (c .whole), uncut-reached))
+          (λ h. ap openIntents (round-refused u x h) ∙ by-zero (openIntents x) (λ z. true≢false (sym (uncut-ok l e z) ∙ h))))
 
-  -- ---- the theorem
-  pub demand3-by : (rs : List Round) (log : List ℕ) → Bytes log → bookLayout log ≡ L.Sound → NoRepeat (recovered log .orders) → OneList broker rs log
-      → Demand3 broker rs log
-  demand3-by rs log b s d one =
-      let l = led-run rs log b s d one in
-      let ad : added log (run rs log) ≡ l .entries =
-      ap (drop (length (eventsOf log))) (l .events) ∙ drop-append-seam (eventsOf log) (l .entries) in
-      let w : Written (chosen broker) (textOf (run rs log)) (lastNumber 0 (eventsOf log)) (l .symbols) (l .entries) =
-      subst (λ (n : ℕ). Written (chosen broker) (textOf (run rs log)) n (l .symbols) (l .entries)) (steps-number (firstState (pos 0)) (eventsOf log)) (l .written) in
-      record {
-        formed = l .sound;
-        kept = ap (take (length (eventsOf log))) (l .events) ∙ take-append-seam (eventsOf log) (l .entries);
-        accepted = λ h. book-accepted log (run rs log) s (l .sound) (l .events) w h;
-        once = λ y.
-            subst (λ (es : List Event). countWhere (isEntry y) es ≤ 1) (sym ad)
-            (omega (arith, written-hits y (l .texted) (l .written), l .weight (tally y), tally-one y (recovered log .orders) d));
-        total = subst (λ (es : List Event). length es + openIntents (run rs log) ≡ openIntents log) (sym ad) (omega (arith, written-length (l .written), led-total l));
-        numbers = subst (Follow (lastNumber 0 (eventsOf log))) (sym ad) (written-follow w);
-        fewer = run-fewer rs log b s d one;
-        ends = λ e u c. uncut-end log b s u c d l e;
-      }
+-- ---- the theorem
+pub demand3 : (broker : List BrokerOrderStatus) → Small (chosen broker) → (rs : List Round) (log : List ℕ) → Bytes log → bookLayout log ≡ L.Sound
+    → NoRepeat (recovered log .orders) → OneList broker rs log → Demand3 broker rs log
+demand3 broker small rs log b s d one =
+    let l = led-run broker small rs log b s d one in
+    let ad : added log (run rs log) ≡ l .entries = ap (drop (length (eventsOf log))) (l .events) ∙ drop-append-seam (eventsOf log) (l .entries) in
+    let w : Written (chosen broker) (textOf (run rs log)) (lastNumber 0 (eventsOf log)) (l .symbols) (l .entries) =
+    subst (λ (n : ℕ). Written (chosen broker) (textOf (run rs log)) n (l .symbols) (l .entries)) (steps-number (firstState (pos 0)) (eventsOf log)) (l .written) in
+    record {
+      formed = l .sound;
+      kept = ap (take (length (eventsOf log))) (l .events) ∙ take-append-seam (eventsOf log) (l .entries);
+      accepted = λ h. book-accepted log (run rs log) s (l .sound) (l .events) w h;
+      once = λ y.
+          subst (λ (es : List Event). countWhere (isEntry y) es ≤ 1) (sym ad)
+          (omega (arith, written-hits y (l .texted) (l .written), l .weight (tally y), tally-one y (recovered log .orders) d));
+      total =
+          subst (λ (es : List Event). length es + openIntents (run rs log) ≡ openIntents log) (sym ad)
+          (omega (arith, written-length (l .written), led-total l));
+      numbers = subst (Follow (lastNumber 0 (eventsOf log))) (sym ad) (written-follow w);
+      fewer = run-fewer broker small rs log b s d one;
+      ends = λ e u c. uncut-end broker small log b s u c d l e;
+    }

@@ -1,41 +1,31 @@
 -- One log led to another by entries: what a round that passes does, and what any number of rounds do. About no function.
 -- Assumes nothing.
-use Prim.Native.Nat.{ℕ, suc, _+_, _-_, _*_, _^_, _≤_, _<_}
+use Prim.Native.Nat.{ℕ, _+_, _-_, _*_, _^_, _≤_, _<_}
 use mathlib.Core.Path.{_≡_, refl, sym, ap, _∙_, subst}
 use mathlib.Core.Logic.{_⊎_, inl, inr}
-use mathlib.Core.List.{List, [], _∷_, _++_, append-assoc, append-nil}
-use mathlib.Core.Bool.{true, false}
+use mathlib.Core.List.{List, [], _++_, append-assoc, append-nil}
 use native.Mathlib.Omega.{arith}
-use lib.IntN.{ℤ, pos}
-use lib.ListN.{length, take, length-append, length-take}
-use borrow.Author.Tests.{ltb-true, ltb-false, leb-false}
+use lib.IntN.{pos}
+use lib.ListN.{length, length-append}
 use Rattle.wire.specs.declared.layout.Layout.the-variants as L
 use Rattle.wire.proofs.Written.{Bytes}
 use Rattle.wire.proofs.Records.{Each}
 use Rattle.wire.proofs.Records as Of
 use Rattle.symbol.specs.declared.Symbol.{Symbol}
-use Rattle.book.specs.Layout.{bookLayout, eventCount, rowCount, textLength}
+use Rattle.book.specs.Layout.{bookLayout, eventCount, rowCount}
 use Rattle.book.specs.Event.{textOf}
-use Rattle.sheet.specs.Sheet.{sheetOrders, ordersFailed}
-use Rattle.sheet.specs.declared.BrokerOrderStatus.{BrokerOrderStatus}
-use Rattle.records.specs.declared.order.Order.{Order}
 use Rattle.marks.specs.declared.Marks.{Marks}
 use Rattle.effects.specs.Event.{Event, eventsOf}
 use Rattle.recovery.specs.Recover.{State, firstState, steps}
 use Rattle.recovery.proofs.Appended.{steps-append}
-use Rattle.intents.specs.Intents.{chosen, addendum, entryTable, entryTexts, ordersMost}
+use Rattle.intents.specs.Intents.{ordersMost}
 use Rattle.intents.specs.declared.Chosen.{Chosen}
-use Rattle.join.specs.Join.{joined, tooLarge}
-use Rattle.rounds.specs.Rounds.{Round}
-use Rattle.rounds.specs.Demand3.{recovered, openIntents, NoRepeat, answered, Small}
-use Rattle.rounds.proofs.Entries.{Texted, entryEvents}
-use Rattle.rounds.proofs.Settling.{by-bool, Written, end, written-more, written-append, written-length, ordersAfter, Among, among-take, among-each}
-use Rattle.rounds.proofs.Progress.{Prog, prog-refl, prog-more, prog-trans, prog-length, openWeight, sum, one, weight-count, sum-one, sum-append, sum-take, round-prog, round-weight, reached-among, among-weight, textWeight, texts-length}
-use Rattle.rounds.proofs.Stepping.{steps-orders, timeless, noted, noted-number, steps-marks, entries-positions}
-use Rattle.rounds.proofs.Spelling.{Good, spelt-texted, spelt-len}
-use Rattle.rounds.proofs.SoundBook.{book-length, text-length, events-count, orders-good}
-use Rattle.rounds.proofs.Calls.{each-map, roundSymbols, roundAddendum, Second, Third}
-use Rattle.rounds.proofs.EntriesJoined.{Entered, Joins, add-entries, add-no-rows, joins-book, joins-events, joins-text, entries-written, written-take}
+use Rattle.rounds.specs.Demand3.{recovered, openIntents}
+use Rattle.rounds.proofs.Entries.{Texted}
+use Rattle.rounds.proofs.Settling.{Written, end, written-more, written-append, written-length}
+use Rattle.rounds.proofs.Progress.{Prog, prog-refl, prog-more, prog-trans, prog-length, openWeight, sum, one, weight-count, sum-one, sum-append, textWeight}
+use Rattle.rounds.proofs.Stepping.{timeless, noted, noted-number, steps-marks, entries-positions}
+use Rattle.rounds.proofs.SoundBook.{events-count}
 
 pub record Led (c : Chosen) (x y : List ℕ) : Type 0 where
   pub bytes : Bytes y

@@ -5,7 +5,7 @@ use Prim.Native.Nat.{ℕ, _+_, _^_}
 use mathlib.Core.Path.{_≡_, refl}
 use mathlib.Core.List.{List, [], _∷_, _++_}
 use mathlib.Core.Bool.{Bool, true}
-use lib.Dec.{ltb}
+use lib.Dec.{ltb, lit<}
 use lib.Ieee.{ofBits}
 use lib.IntN.{pos}
 use lib.ListN.{length, replicate}
@@ -35,7 +35,8 @@ use Rattle.join.specs.Join.{bookOf, each, movedCell, movedRow, movedEvent, join
 use Rattle.intents.specs.Intents.{query, chosen, reached, unreached, entryText, entryBytes, entryTable, entryTexts, addendum, reconciling, addendumOut}
 use Rattle.intents.specs.Intents as Lent
 use Rattle.rounds.specs.Rounds.{Round, joinRound, reconcileRound, roundOf, next, run}
-use Rattle.rounds.specs.Demand3.{recovered, openIntents, NoRepeat, added, passes, answered}
+use Rattle.rounds.specs.Demand3.{recovered, openIntents, NoRepeat, added, passes, answered, Small, OneList, Demand3}
+use Rattle.rounds.proofs.Theorem.{demand3}
 
 -- all that the examples go through
 unfoldable opened : Unit {0}
@@ -125,6 +126,18 @@ sampleRounds = roundBy 78 (1 ∷ 1 ∷ []) 0 ∷ roundBy 78 (0 ∷ 0 ∷ []) 1 �
 sample-ends : (openIntents (run sampleRounds sample) ≡ 0) × (length (added sample (run sampleRounds sample)) ≡ 2)
 unfolding opened intent begun twoIntents sheetOf roundBy sample sampleRounds
 sample-ends = (refl, refl)
+
+-- the theorem is about them
+sample-small : Small (chosen (sheetOrders (sheetOf 78)))
+unfolding opened sheetOf
+sample-small = lit< tt
+
+sample-one : OneList (sheetOrders (sheetOf 78)) sampleRounds sample
+unfolding sheetOf roundBy sampleRounds
+sample-one = ((λ p a. refl), ((λ p a. refl), ((λ p a. refl), tt)))
+
+sample-demand : Demand3 (sheetOrders (sheetOf 78)) sampleRounds sample
+sample-demand = demand3 (sheetOrders (sheetOf 78)) sample-small sampleRounds sample sample-bytes sample-sound sample-apart sample-one
 
 -- ---- two symbols that don't parse are both UNKNOWN: after a whole round there are two entries, and one intent is open
 unfoldable unparsed : List ℕ

@@ -1,21 +1,18 @@
 -- A sound book of bytes: the lengths of its tables, what its cells give, and that every order recovered from it is good. About no function.
 -- Assumes nothing.
 use Prim.Native.Nat.{ℕ, zero, suc, _+_, _-_, _*_, _/_, _%_, _^_, _≤_, _<_}
-use mathlib.Core.Path.{_≡_, refl, _∙_, subst}
-use mathlib.Core.List.{List, [], _∷_}
-use mathlib.Core.Bool.{Bool, true, not, _&&_}
-use native.Mathlib.Nat.{mul-zero, mul-suc, zero-add, suc-add}
+use mathlib.Core.Path.{_≡_}
+use mathlib.Core.List.{List, []}
+use mathlib.Core.Bool.{true, _&&_}
 use native.Mathlib.Omega.{arith}
-use lib.Dec.{eqb}
 use lib.IntN.{pos}
-use lib.ListN.{length, take, drop, length-drop}
+use lib.ListN.{length, drop}
 use lib.Seq.{drop-drop}
-use borrow.Author.Tests.{leb-true, eqb-true}
+use borrow.Author.Tests.{leb-true}
 use Rattle.wire.specs.Le.{le}
 use Rattle.wire.specs.Table.{every, records}
 use Rattle.wire.specs.declared.layout.Layout.the-variants as L
 use Rattle.wire.proofs.Written.{Bytes}
-use Rattle.wire.proofs.Written as Byte
 use Rattle.wire.proofs.Records.{Each, length-records}
 use Rattle.wire.proofs.Records as Of
 use Rattle.symbol.proofs.Text.{and-left, and-right, bytes-drop}
@@ -24,7 +21,7 @@ use Rattle.cell.specs.declared.AsStr.{AsStr}
 use Rattle.cell.specs.declared.AsStr.the-variants as Str
 use Rattle.cell.specs.declared.AsArray.{AsArray}
 use Rattle.cell.specs.declared.AsArray.the-variants as A
-use Rattle.book.specs.Layout.{payloadOk, cellOk, rowCellOk, rowOk, eventOk, eventCount, rowCount, textLength, offsetsOk, tablesOk, partsOk, bookLayout}
+use Rattle.book.specs.Layout.{payloadOk, cellOk, rowCellOk, rowOk, eventOk, eventCount, rowCount, textLength, tablesOk, partsOk, bookLayout}
 use Rattle.book.specs.Event.{eventsIn, rowsIn, textOf, symbolCell, ordersCell}
 use Rattle.effects.specs.Event.{bytesOfText, rowOf, rowsOf, eventOf, eventsOf}
 use Rattle.effects.proofs.CellFits.{str-fits, whole-fits}

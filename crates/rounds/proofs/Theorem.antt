@@ -10,7 +10,7 @@ use lib.Dec.{ltb}
 use lib.IntN.{pos}
 use lib.ListN.{length, take, drop, length-append}
 use lib.Seq.{take-append-seam, drop-append-seam}
-use borrow.Author.Tests.{ltb-true, ltb-false, le-ltb, lt-ltb, lt-leb}
+use borrow.Author.Tests.{ltb-false, le-ltb, lt-ltb, lt-leb}
 use Rattle.wire.specs.Layout.{oversizeIf, brokenIf, soundIf}
 use Rattle.wire.specs.declared.layout.Layout.{Layout}
 use Rattle.wire.specs.declared.layout.Layout.the-variants as L
@@ -18,7 +18,6 @@ use Rattle.wire.proofs.Written.{Bytes}
 use Rattle.wire.proofs.Records.{Each}
 use Rattle.book.specs.Layout.{bookLayout, eventCount, rowCount, textLength, partsOk}
 use Rattle.book.specs.Event.{textOf}
-use Rattle.sheet.specs.Sheet.{sheetOrders}
 use Rattle.sheet.specs.declared.BrokerOrderStatus.{BrokerOrderStatus}
 use Rattle.records.specs.Search.{isIntent, countWhere}
 use Rattle.records.specs.declared.order.Order.{Order}
@@ -30,14 +29,14 @@ use Rattle.intents.specs.Intents.{chosen, reached, addendum, entryTexts, orders
 use Rattle.intents.specs.declared.Chosen.{Chosen}
 use Rattle.join.specs.Join.{joined, joinedLength, tooLarge}
 use Rattle.rounds.specs.Rounds.{Round, Outcome, joinRound, roundOf, next, run}
-use Rattle.rounds.specs.Demand3.{recovered, openIntents, NoRepeat, lastNumber, added, isEntry, Follow, done, passes, Whole, answered, Small, OneList, Fewer, Uncut, sameRecovered, Demand3}
+use Rattle.rounds.specs.Demand3.{recovered, openIntents, NoRepeat, lastNumber, added, isEntry, Follow, done, passes, Small, OneList, Fewer, Uncut, sameRecovered, Demand3}
 use Rattle.rounds.proofs.Settling.{by-bool, Written, written-length, written-follow}
 use Rattle.rounds.proofs.Progress.{Prog, prog-distinct, weight-none, among-weight, reached-all, tally, tally-one, written-hits, textWeight, texts-length}
 use Rattle.rounds.proofs.Ending.{RefsIn, ends-same}
 use Rattle.rounds.proofs.Stepping.{steps-number, timeless, noted, marks-same, positions-self}
 use Rattle.rounds.proofs.Accepted.{book-accepted}
 use Rattle.rounds.proofs.SoundBook.{book-length, text-length, orders-good}
-use Rattle.rounds.proofs.Calls.{each-map, round-refused, roundSymbols, First, Second, Third, third-done, third-log, third-addendum, stages, passed}
+use Rattle.rounds.proofs.Calls.{each-map, round-refused, roundSymbols, First, Second, Third, third-done, third-addendum, stages}
 use Rattle.rounds.proofs.AddendumBook.{length-addendum}
 use Rattle.rounds.proofs.EntriesJoined.{add-sound, add-entries, add-no-rows, add-texts}
 use Rattle.rounds.proofs.Leading.{Led, led-marks, led-positions, led-total, led-count, led-refl, led-trans}
@@ -176,9 +175,9 @@ module _ (broker : List BrokerOrderStatus) (small : Small (chosen broker)) where
         let m = led-next broker small u x bx sx d (λ h. shows) in
         led-same bx sx l m e
         (by-bool (passes u x)
-          (λ h.
-            omega (arith, led-total m, led-count m, next-count broker small u x bx sx shows h, whole-count broker small u x bx sx shows h (c .whole), uncut-reached))
-          (λ h. ap openIntents (round-refused u x h) ∙ by-zero (openIntents x) (λ z. true≢false (sym (uncut-ok l e z) ∙ h))))
+        (λ h.
+        omega (arith, led-total m, led-count m, next-count broker small u x bx sx shows h, whole-count broker small u x bx sx shows h (c .whole), uncut-reached))
+        (λ h. ap openIntents (round-refused u x h) ∙ by-zero (openIntents x) (λ z. true≢false (sym (uncut-ok l e z) ∙ h))))
 
 -- ---- the theorem
 pub demand3 : (broker : List BrokerOrderStatus) → Small (chosen broker) → (rs : List Round) (log : List ℕ) → Bytes log → bookLayout log ≡ L.Sound

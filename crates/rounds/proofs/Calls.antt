@@ -211,7 +211,9 @@ reconciles-done L.Sound true a n m room y h = by (tooLarge (length a) n 0) (ltb 
         → (L.Sound ≡ L.Sound) × (true ≡ true) × (tooLarge (length a) n 0 ≡ false) × (ltb room (length a) ≡ false) × (y .length ≡ length a)
     by true u p q h = let z : _≡_ {A = ℕ} 0 1 = cc in absurd (omega arith)
     by false true p q h = let z : _≡_ {A = ℕ} 0 1 = cc in absurd (omega arith)
-    by false false p q h = let e : record { entries = n; unreached = m; length = length a } ≡ y = cc in (refl, refl, p, q, sym (ap (λ (z : Reconciled). z .length) e))
+    by false false p q h =
+        let e : record { entries = n; unreached = m; length = length a } ≡ y = cc in
+        (refl, refl, p, q, sym (ap (λ (z : Reconciled). z .length) e))
 
 never-broken : (l : Layout) (y : Reconciled) (n : ℕ) → reconcilesIf (bothOf l L.Broken) true [] 0 0 n ≡ Ask.Done y → ⊥
 never-broken L.Sound y n h = let z : _≡_ {A = ℕ} 0 1 = cc in omega arith
@@ -252,7 +254,8 @@ module _ (r : Round) (log : List ℕ) (n : ℕ) (s : bookLayout log ≡ L.Sound)
   length-back : length (lentOrders r log (recoveredAt log (r .now))) ≡ 64 * length (recovered log .orders)
   length-back = ap length (lent-is r log s f) ∙ length-encoded orderBytes 64 order-size (recovered log .orders)
 
-  addendum-back : Lent.lentAddendum (stateOf log (r .now) .marks) (lentOrders r log (recoveredAt log (r .now))) (r .sheet) (r .queries) (r .time) ≡ roundAddendum r log
+  addendum-back :
+      Lent.lentAddendum (stateOf log (r .now) .marks) (lentOrders r log (recoveredAt log (r .now))) (r .sheet) (r .queries) (r .time) ≡ roundAddendum r log
   addendum-back =
       addendum-by r (stateOf log (r .now) .marks) (lentOrders r log (recoveredAt log (r .now))) (recovered log .marks .number) (recovered log .orders)
       (number-apart log (r .now)) orders-back

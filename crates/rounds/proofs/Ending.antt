@@ -59,7 +59,8 @@ bytes-self (b ∷ t) = and-both (eq-eqb b b refl) (bytes-self t)
 pub bytes-same : (s t : List ℕ) → s ≡ t → sameBytes s t ≡ true
 bytes-same s t e = rw e (bytes-self t)
 
-same-order : (s t : List ℕ) (o p : Order) → sameSymbol (o .symbol) (p .symbol) ≡ true → readFlags o ≡ readFlags p → o .id ≡ p .id → o .shares ≡ p .shares → o .limit ≡ p .limit
+same-order : (s t : List ℕ) (o p : Order) → sameSymbol (o .symbol) (p .symbol) ≡ true → readFlags o ≡ readFlags p
+    → o .id ≡ p .id → o .shares ≡ p .shares → o .limit ≡ p .limit
     → textIn s (o .action) ≡ textIn t (p .action) → textOr s (o .client) ≡ textOr t (p .client) → textOr s (o .reason) ≡ textOr t (p .reason)
     → sameOrder s t o p ≡ true
 unfolding sameOrder sameTexts

@@ -69,7 +69,8 @@ orders-texted : (x : List ℕ) → Bytes x → bookLayout x ≡ L.Sound → Each
 orders-texted x b s = each-map (recovered x .orders) (λ o g. spelt-texted (o .symbol) (g .symbol)) (orders-good x b s)
 
 -- ---- a round on a sound log of bytes
-module _ (broker : List BrokerOrderStatus) (small : Small (chosen broker)) (r : Round) (x : List ℕ) (bx : Bytes x) (sx : bookLayout x ≡ L.Sound) (shows : Shows broker r x) where
+module _ (broker : List BrokerOrderStatus) (small : Small (chosen broker)) (r : Round) (x : List ℕ) (bx : Bytes x) (sx : bookLayout x ≡ L.Sound)
+    (shows : Shows broker r x) where
   pub entered : Second r x → Entered (chosen broker) (r .time) (recovered x .marks .number) (roundSymbols r x)
   entered q =
       let n = ltb-true (recovered x .marks .number + 1 + openIntents x) (2 ^ 64) (q .numbers) in
@@ -92,7 +93,8 @@ module _ (broker : List BrokerOrderStatus) (small : Small (chosen broker)) (r : 
     entries : List Event
     entries = take (r .k) (entryEvents (chosen broker) (r .time) (suc (recovered x .marks .number)) (textLength x) (roundSymbols r x))
 
-    joined-written : Written (chosen broker) (textOf (joined x (chosenAddendum broker r x) (r .k))) (recovered x .marks .number) (take (r .k) (roundSymbols r x)) entries
+    joined-written :
+        Written (chosen broker) (textOf (joined x (chosenAddendum broker r x) (r .k))) (recovered x .marks .number) (take (r .k) (roundSymbols r x)) entries
     unfolding entries
     joined-written =
         let n = recovered x .marks .number in
@@ -168,14 +170,14 @@ module _ (broker : List BrokerOrderStatus) (small : Small (chosen broker)) (r : 
       ∙ add-entries (entered (p .second))
 
 -- ---- a round, refused or not
-pub led-next : (broker : List BrokerOrderStatus) → Small (chosen broker) → (r : Round) (x : List ℕ) → Bytes x → bookLayout x ≡ L.Sound → NoRepeat (recovered x .orders)
-    → (passes r x ≡ true → Shows broker r x) → Led (chosen broker) x (next r x)
+pub led-next : (broker : List BrokerOrderStatus) → Small (chosen broker) → (r : Round) (x : List ℕ) → Bytes x → bookLayout x ≡ L.Sound
+    → NoRepeat (recovered x .orders) → (passes r x ≡ true → Shows broker r x) → Led (chosen broker) x (next r x)
 led-next broker small r x bx sx d shows =
     by-bool (passes r x) (λ h. led-passed broker small r x bx sx (shows h) d h)
     (λ h. subst (Led (chosen broker) x) (sym (round-refused r x h)) (led-refl x bx sx))
 
-pub round-fewer : (broker : List BrokerOrderStatus) → Small (chosen broker) → (r : Round) (x : List ℕ) → Bytes x → bookLayout x ≡ L.Sound → NoRepeat (recovered x .orders)
-    → (passes r x ≡ true → Shows broker r x) → passes r x ≡ true → Whole r x → answered r x ≡ true → openIntents (next r x) < openIntents x
+pub round-fewer : (broker : List BrokerOrderStatus) → Small (chosen broker) → (r : Round) (x : List ℕ) → Bytes x → bookLayout x ≡ L.Sound
+    → NoRepeat (recovered x .orders) → (passes r x ≡ true → Shows broker r x) → passes r x ≡ true → Whole r x → answered r x ≡ true → openIntents (next r x) < openIntents x
 round-fewer broker small r x bx sx d shows h w a =
     let l = led-next broker small r x bx sx d shows in
     let n = ltb-true 0 (length (roundSymbols r x)) a in

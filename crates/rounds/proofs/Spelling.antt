@@ -64,9 +64,6 @@ spelt-texted y s =
     let e = spelt-text (s .text) (s .parse) (s .bytes) in
     rw (s .same) (record { len = ap length e; word = ap (le symbolWidth) e })
 
-pub spelt-len : (y : Symbol) → Spelt y → y .len ≤ symbolWidth
-spelt-len y s = rw (s .same) (parses-most (s .text) (s .parse))
-
 spelt-fits : (y : Symbol) → Spelt y → SymbolFits y
 spelt-fits y s =
     let m = parses-most (s .text) (s .parse) in
@@ -82,7 +79,9 @@ unknown-spelt =
     record {
       text = 85 ∷ 78 ∷ 75 ∷ 78 ∷ 79 ∷ 87 ∷ 78 ∷ [];
       parse = refl;
-      bytes = Byte.more (lit< tt) (Byte.more (lit< tt) (Byte.more (lit< tt) (Byte.more (lit< tt) (Byte.more (lit< tt) (Byte.more (lit< tt) (Byte.more (lit< tt) Byte.none))))));
+      bytes =
+          Byte.more (lit< tt)
+          (Byte.more (lit< tt) (Byte.more (lit< tt) (Byte.more (lit< tt) (Byte.more (lit< tt) (Byte.more (lit< tt) (Byte.more (lit< tt) Byte.none))))));
       same = refl;
     }
 
@@ -182,7 +181,8 @@ filled-good n o g =
       refs = record { action = g .refs .action; client = g .refs .client; reason = g .refs .reason };
     }
 
-new-good : (n : ℕ) (y : Symbol) (action : TextRef) (shares limit : ℤ) (client : AsStr) → Spelt y → RefFits action → RefIn n action → SFits w64 shares → SFits w64 limit
+new-good : (n : ℕ) (y : Symbol) (action : TextRef) (shares limit : ℤ) (client : AsStr) → Spelt y → RefFits action
+    → RefIn n action → SFits w64 shares → SFits w64 limit
     → GoodStr n client → Good n (newOrder y action shares limit client)
 new-good n y action shares limit client s f a q l c =
     record {
@@ -263,7 +263,8 @@ module _ (n : ℕ) (os : List Order) (h : Each (Good n) os) where
       named : (k : Named) → Each (Good n) (ordersBy k e os)
       named K.Nothing = h
       named (K.Is k) =
-          by (sameCheckpoint k DiffComputed) (sameCheckpoint k OrderIntent) (sameCheckpoint k OrderFailed) (sameCheckpoint k OrderSubmitted) (sameCheckpoint k OrderFilled)
+          by (sameCheckpoint k DiffComputed) (sameCheckpoint k OrderIntent) (sameCheckpoint k OrderFailed)
+          (sameCheckpoint k OrderSubmitted) (sameCheckpoint k OrderFilled)
 
 pub after-good : (n : ℕ) (es : List Event) (os : List Order) → Each (GoodEvent n) es → Each (Good n) os → Each (Good n) (ordersAfter es os)
 unfolding ordersAfter

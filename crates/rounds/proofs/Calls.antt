@@ -39,6 +39,7 @@ use Rattle.join.specs.declared.Joining.{Joining}
 use Rattle.join.specs.declared.Joining.the-variants as Joins
 use Rattle.rounds.specs.Rounds.{Round, Outcome, afterJoin, joinRound, lentOrders, lentAddendum, afterReconciling, reconcileRound, afterRecovery, roundOf, next}
 use Rattle.rounds.specs.Demand3.{recovered, openIntents, done, passes}
+use Rattle.rounds.specs.declared.Rounded.the-variants.{NoRoom}
 use Rattle.rounds.proofs.Settling.{by-bool}
 use Rattle.rounds.proofs.Stepping.{steps-number, orders-apart}
 use Rattle.rounds.proofs.Spelling.{Good, good-passes}
@@ -130,6 +131,15 @@ pub first-is : (r : Round) (log : List ℕ) → bookLayout log ≡ L.Sound → F
 unfolding roundOf
 first-is r log s f = ap (afterRecovery r log) (recovery-is r log s f)
 
+-- refused by 3 alone
+pub first-full : (r : Round) (log : List ℕ) → bookLayout log ≡ L.Sound → timeLayout (r .now) ≡ L.Sound
+    → roomy (r .orders) (r .positions) (firstState (r .now)) (eventsOf log) ≡ false → roundOf r log .answer ≡ NoRoom
+unfolding roundOf
+first-full r log s t f = ap (λ (v : Recovery). afterRecovery r log v .answer) full
+  where
+    full : recovery log (r .now) (r .orders) (r .positions) ≡ Rec.NoRoom
+    full = unfold recovery in rw (s, t, f)
+
 -- ---- the second call
 -- the symbols of the intents reached, and the addendum of their entries
 abbrev pub roundSymbols : Round → List ℕ → List Symbol
@@ -138,12 +148,15 @@ roundSymbols r log = reached (ordersFailed (r .sheet)) (recovered log .orders) (
 abbrev pub roundAddendum : Round → List ℕ → List ℕ
 roundAddendum r log = addendum (chosen (sheetOrders (r .sheet))) (r .time) (recovered log .marks .number) (roundSymbols r log)
 
-pub record Second (r : Round) (log : List ℕ) : Type 0 where
+pub record Askable (r : Round) (log : List ℕ) : Type 0 where
   pub few : leb ordersMost (64 * length (recovered log .orders)) ≡ false
   pub sheet : sheetLayout (r .sheet) ≡ L.Sound
   pub time : timeLayout (r .time) ≡ L.Sound
   pub numbers : numbersLeft (recovered log .marks .number) (openIntents log) ≡ true
   pub size : tooLarge (length (roundAddendum r log)) (length (roundSymbols r log)) 0 ≡ false
+
+pub record Second (r : Round) (log : List ℕ) : Type 0 where
+  pub askable : Askable r log
   pub room : ltb (r .addendum) (length (roundAddendum r log)) ≡ false
 
 -- what it is lent: the marks' number and the orders
@@ -280,7 +293,7 @@ module _ (r : Round) (log : List ℕ) (n : ℕ) (s : bookLayout log ≡ L.Sound)
       let p =
       answered r (64 * length (recovered log .orders)) (recovered log .orders) (recovered log .marks .number) (roundAddendum r log) (v .given)
       (sym asked-is ∙ v .is) in
-      record { few = p .few; sheet = p .sheet; time = p .time; numbers = p .numbers; size = p .size; room = p .room }
+      record { askable = record { few = p .few; sheet = p .sheet; time = p .time; numbers = p .numbers; size = p .size }; room = p .room }
 
   -- what it answers where it passes
   abbrev pub reconciledBy : Reconciled
@@ -293,7 +306,17 @@ module _ (r : Round) (log : List ℕ) (n : ℕ) (s : bookLayout log ≡ L.Sound)
 
   asked-done : Second r log → asked r log ≡ Ask.Done reconciledBy
   unfolding answerBy
-  asked-done q = rw (q .few, q .sheet, q .time, q .numbers, q .size, q .room)
+  asked-done q = rw (q .askable .few, q .askable .sheet, q .askable .time, q .askable .numbers, q .askable .size, q .room)
+
+  asked-full : Askable r log → ltb (r .addendum) (length (roundAddendum r log)) ≡ true → asked r log ≡ Ask.NoRoom
+  unfolding answerBy
+  asked-full q h = rw (q .few, q .sheet, q .time, q .numbers, q .size, h)
+
+  -- refused by 3 alone
+  pub second-full : Askable r log → ltb (r .addendum) (length (roundAddendum r log)) ≡ true
+      → reconcileRound r log (recoveredAt log (r .now)) .answer ≡ NoRoom
+  unfolding reconcileRound
+  second-full q h = ap (λ (v : Reconciling). afterReconciling r log (recoveredAt log (r .now)) v .answer) (asked-is ∙ asked-full q h)
 
   lent-addendum : Second r log → lentAddendum r log (recoveredAt log (r .now)) reconciledBy ≡ roundAddendum r log
   unfolding addendumOut
@@ -310,10 +333,13 @@ module _ (r : Round) (log : List ℕ) (n : ℕ) (s : bookLayout log ≡ L.Sound)
       ap (afterReconciling r log (recoveredAt log (r .now))) (asked-is ∙ asked-done q) ∙ ap (joinRound r log) (lent-addendum q)
 
 -- ---- the third call, on a sound log
-pub record Third (r : Round) (log b : List ℕ) : Type 0 where
+pub record Joinable (r : Round) (log b : List ℕ) : Type 0 where
   pub sound : bookLayout b ≡ L.Sound
   pub count : ltb (eventCount b) (r .k) ≡ false
   pub size : tooLarge (joinedLength log b (r .k)) (eventCount log + r .k) (rowCount log + rowCount b) ≡ false
+
+pub record Third (r : Round) (log b : List ℕ) : Type 0 where
+  pub joinable : Joinable r log b
   pub room : ltb (r .joined) (joinedLength log b (r .k)) ≡ false
 
 record Joined (v : Joining) : Type 0 where
@@ -349,11 +375,22 @@ unfolding joinRound joining
 third-passed r log b s h =
     let v = joins r log b (joining log b (r .k) (r .joined)) h in
     let p = joins-done (bothOf (bookLayout log) (bookLayout b)) log b (r .k) (r .joined) (v .given) (v .is) in
-    record { sound = both-sound (bookLayout log) (bookLayout b) (p .0) .1; count = p .1; size = p .2; room = p .3 }
+    record { joinable = record { sound = both-sound (bookLayout log) (bookLayout b) (p .0) .1; count = p .1; size = p .2 }; room = p .3 }
 
 joining-is : (r : Round) (log b : List ℕ) → bookLayout log ≡ L.Sound → Third r log b → joining log b (r .k) (r .joined) ≡ Joins.Done (joinedLength log b (r .k))
 unfolding joining
-joining-is r log b s t = rw (s, t .sound, t .count, t .size, t .room)
+joining-is r log b s t = rw (s, t .joinable .sound, t .joinable .count, t .joinable .size, t .room)
+
+-- refused by 3 alone
+joining-full : (r : Round) (log b : List ℕ) → bookLayout log ≡ L.Sound → Joinable r log b → ltb (r .joined) (joinedLength log b (r .k)) ≡ true
+    → joining log b (r .k) (r .joined) ≡ Joins.NoRoom
+unfolding joining
+joining-full r log b s t h = rw (s, t .sound, t .count, t .size, h)
+
+pub third-full : (r : Round) (log b : List ℕ) → bookLayout log ≡ L.Sound → Joinable r log b → ltb (r .joined) (joinedLength log b (r .k)) ≡ true
+    → joinRound r log b .answer ≡ NoRoom
+unfolding joinRound
+third-full r log b s t h = ap (λ (v : Joining). afterJoin r log b v .answer) (joining-full r log b s t h)
 
 pub third-done : (r : Round) (log b : List ℕ) → bookLayout log ≡ L.Sound → Third r log b → done (joinRound r log b .answer) ≡ true
 unfolding joinRound

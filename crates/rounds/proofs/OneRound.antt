@@ -32,7 +32,7 @@ use Rattle.rounds.proofs.Progress.{one, weight-count, sum-one, sum-take
 use Rattle.rounds.proofs.Stepping.{steps-orders}
 use Rattle.rounds.proofs.Spelling.{spelt-texted}
 use Rattle.rounds.proofs.SoundBook.{text-length, orders-good}
-use Rattle.rounds.proofs.Calls.{each-map, roundSymbols, roundAddendum, Second, Third, round-refused, third-log, third-addendum, passed}
+use Rattle.rounds.proofs.Calls.{each-map, roundSymbols, roundAddendum, Askable, Second, Third, round-refused, third-log, third-addendum, passed}
 use Rattle.rounds.proofs.EntriesJoined.{Entered, Joins, add-entries, add-no-rows, joins-book, joins-events, joins-text, entries-written, written-take}
 use Rattle.rounds.proofs.Leading.{Led, led-total, led-count, led-refl}
 
@@ -71,7 +71,7 @@ orders-texted x b s = each-map (recovered x .orders) (λ o g. spelt-texted (o .s
 -- ---- a round on a sound log of bytes
 module _ (broker : List BrokerOrderStatus) (small : Small (chosen broker)) (r : Round) (x : List ℕ) (bx : Bytes x) (sx : bookLayout x ≡ L.Sound)
     (shows : Shows broker r x) where
-  pub entered : Second r x → Entered (chosen broker) (r .time) (recovered x .marks .number) (roundSymbols r x)
+  pub entered : Askable r x → Entered (chosen broker) (r .time) (recovered x .marks .number) (roundSymbols r x)
   entered q =
       let n = ltb-true (recovered x .marks .number + 1 + openIntents x) (2 ^ 64) (q .numbers) in
       record {
@@ -84,9 +84,9 @@ module _ (broker : List BrokerOrderStatus) (small : Small (chosen broker)) (r : 
 
   joins : Second r x → Third r x (chosenAddendum broker r x) → Joins (chosen broker) (r .time) (recovered x .marks .number) (roundSymbols r x) x (r .k)
   joins q t =
-      let e = entered q in
-      let k = ltb-false (eventCount (chosenAddendum broker r x)) (r .k) (t .count) in
-      record { bytes = bx; sound = sx; entered = e; count = omega (arith, add-entries e); size = t .size }
+      let e = entered (q .askable) in
+      let k = ltb-false (eventCount (chosenAddendum broker r x)) (r .k) (t .joinable .count) in
+      record { bytes = bx; sound = sx; entered = e; count = omega (arith, add-entries e); size = t .joinable .size }
 
   -- the log that is joined
   module _ (d : NoRepeat (recovered x .orders)) (q : Second r x) (t : Third r x (chosenAddendum broker r x)) where
@@ -133,8 +133,8 @@ module _ (broker : List BrokerOrderStatus) (small : Small (chosen broker)) (r : 
           rows = joins-book j .rows ∙ omega (arith, add-no-rows (j .entered));
           space =
               inr (
-                ltb-true (recovered x .marks .number + 1 + openIntents x) (2 ^ 64) (q .numbers),
-                leb-false ordersMost (64 * length (recovered x .orders)) (q .few),
+                ltb-true (recovered x .marks .number + 1 + openIntents x) (2 ^ 64) (q .askable .numbers),
+                leb-false ordersMost (64 * length (recovered x .orders)) (q .askable .few),
               );
         }
 
@@ -167,7 +167,7 @@ module _ (broker : List BrokerOrderStatus) (small : Small (chosen broker)) (r : 
   whole-count h w =
       let p = parts h in
       w ∙ ap (λ (o : Outcome). eventCount (o .addendum)) (p .is) ∙ ap eventCount (third-addendum r x (chosenAddendum broker r x))
-      ∙ add-entries (entered (p .second))
+      ∙ add-entries (entered (p .second .askable))
 
 -- ---- a round, refused or not
 pub led-next : (broker : List BrokerOrderStatus) → Small (chosen broker) → (r : Round) (x : List ℕ) → Bytes x → bookLayout x ≡ L.Sound

@@ -2,9 +2,9 @@
 -- each for a reason. About no function.
 -- Assumes nothing.
 use Prim.Native.Nat.{ℕ, _+_, _^_}
-use mathlib.Core.Path.{_≡_, refl}
+use mathlib.Core.Path.{_≡_, refl, sym, ap, _∙_}
 use mathlib.Core.List.{List, [], _∷_, _++_}
-use mathlib.Core.Bool.{Bool, true}
+use mathlib.Core.Bool.{Bool, true, true≢false}
 use lib.Dec.{ltb, lit<}
 use lib.Ieee.{ofBits}
 use lib.IntN.{pos}
@@ -35,7 +35,7 @@ use Rattle.join.specs.Join.{bookOf, each, movedCell, movedRow, movedEvent, join
 use Rattle.intents.specs.Intents.{query, chosen, reached, unreached, entryText, entryBytes, entryTable, entryTexts, addendum, reconciling, addendumOut}
 use Rattle.intents.specs.Intents as Lent
 use Rattle.rounds.specs.Rounds.{Round, joinRound, reconcileRound, roundOf, next, run}
-use Rattle.rounds.specs.Demand3.{recovered, openIntents, NoRepeat, added, passes, answered, Small, OneList, Demand3}
+use Rattle.rounds.specs.Demand3.{recovered, openIntents, NoRepeat, added, done, passes, answered, Small, OneList, Uncut, sameRecovered, Demand3}
 use Rattle.rounds.proofs.Theorem.{demand3}
 
 -- all that the examples go through
@@ -138,6 +138,32 @@ sample-one = ((λ p a. refl), ((λ p a. refl), ((λ p a. refl), tt)))
 
 sample-demand : Demand3 (sheetOrders (sheetOf 78)) sampleRounds sample
 sample-demand = demand3 (sheetOrders (sheetOf 78)) sample-small sampleRounds sample sample-bytes sample-sound sample-apart sample-one
+
+-- and so the state is that of one uncut round
+unfoldable uncut : Round
+unfolding roundBy
+uncut = roundBy 78 (0 ∷ 0 ∷ []) 2
+
+uncut-passes : passes uncut sample ≡ true
+unfolding opened intent begun twoIntents sheetOf roundBy sample uncut
+uncut-passes = refl
+
+sample-uncut : Uncut (sheetOrders (sheetOf 78)) sample uncut
+unfolding opened intent begun twoIntents sheetOf roundBy sample uncut
+sample-uncut =
+    record {
+      sheet = refl;
+      list = refl;
+      up = refl;
+      zeros = refl;
+      now = refl;
+      time = refl;
+      room = λ h. true≢false (sym uncut-passes ∙ ap done h);
+      whole = refl;
+    }
+
+sample-same : sameRecovered (run sampleRounds sample) (next uncut sample) ≡ true
+sample-same = sample-demand .ends (sample-ends .0) uncut sample-uncut
 
 -- ---- two symbols that don't parse are both UNKNOWN: after a whole round there are two entries, and one intent is open
 unfoldable unparsed : List ℕ

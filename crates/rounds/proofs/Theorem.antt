@@ -22,7 +22,7 @@ use Rattle.sheet.specs.declared.BrokerOrderStatus.{BrokerOrderStatus}
 use Rattle.records.specs.Search.{isIntent, countWhere}
 use Rattle.records.specs.declared.order.Order.{Order}
 use Rattle.effects.specs.Event.{Event, eventsOf}
-use Rattle.recovery.specs.Recover.{firstState}
+use Rattle.recovery.specs.Recover.{firstState, roomy}
 use Rattle.recovery.proofs.BookCounts.{sound-counts}
 use Rattle.state.specs.State.{sameOrder, sameLists, sameState}
 use Rattle.intents.specs.Intents.{chosen, reached, addendum, entryTexts, ordersMost}
@@ -36,7 +36,7 @@ use Rattle.rounds.proofs.Ending.{RefsIn, ends-same}
 use Rattle.rounds.proofs.Stepping.{steps-number, timeless, noted, marks-same, positions-self}
 use Rattle.rounds.proofs.Accepted.{book-accepted}
 use Rattle.rounds.proofs.SoundBook.{book-length, text-length, orders-good}
-use Rattle.rounds.proofs.Calls.{each-map, round-refused, roundSymbols, First, Second, Third, third-done, third-addendum, stages}
+use Rattle.rounds.proofs.Calls.{each-map, round-refused, roundSymbols, roundAddendum, First, first-full, first-is, Askable, Second, second-full, Joinable, Third, third-full, third-done, third-addendum, stages}
 use Rattle.rounds.proofs.AddendumBook.{length-addendum}
 use Rattle.rounds.proofs.EntriesJoined.{add-sound, add-entries, add-no-rows, add-texts}
 use Rattle.rounds.proofs.Leading.{Led, led-marks, led-positions, led-total, led-count, led-refl, led-trans}
@@ -77,6 +77,14 @@ led-same {c} {x} {y} {z} b s l m p q =
     (and-both (marks-same (recovered y .marks) (recovered z .marks) marks)
     (ends-read (textOf x) (l .texts) (m .texts) (textOf y) (textOf z) (l .text) (m .text) refs (l .prog) (m .prog) p q))
     (rw positions (positions-self (recovered y .positions)))
+
+surely : (b : Bool) → (b ≡ false → ⊥) → b ≡ true
+surely true h = refl
+surely false h = absurd (h refl)
+
+never : (b : Bool) → (b ≡ true → ⊥) → b ≡ false
+never true h = absurd (h refl)
+never false h = refl
 
 by-zero : (n : ℕ) → (0 < n → ⊥) → n ≡ 0
 by-zero zero h = refl
@@ -142,8 +150,12 @@ module _ (broker : List BrokerOrderStatus) (small : Small (chosen broker)) where
         let nr = uncut-reached in
         let ry = l .rows in
         let lb : length b ≤ 1048576 = omega arith in
-        let f : First u x = record { now = c .now; room = c .records } in
-        let q : Second u x =
+        let f : First u x =
+        record {
+          now = c .now;
+          room = surely (roomy (u .orders) (u .positions) (firstState (u .now)) (eventsOf x)) (λ n. c .room (first-full u x sx (c .now) n));
+        } in
+        let a : Askable u x =
         record {
           few = lt-leb ordersMost (64 * length (recovered x .orders)) (p .1);
           sheet = c .sheet;
@@ -152,21 +164,32 @@ module _ (broker : List BrokerOrderStatus) (small : Small (chosen broker)) where
           size =
               subst (λ (a : List ℕ). tooLarge (length a) (length (roundSymbols u x)) 0 ≡ false) (sym same)
               (not-large (length b) (length (roundSymbols u x)) 0 lb (omega arith) (omega arith));
-          room = subst (λ (a : List ℕ). ltb (u .addendum) (length a) ≡ false) (sym same) (le-ltb (u .addendum) (length b) (omega (arith, c .addendum)));
         } in
-        let is : roundOf u x ≡ joinRound u x b = stages u x (textLength x) sx (orders-good x bx sx) f q ∙ ap (joinRound u x) same in
-        let en = entered broker small u x bx sx shows q in
+        let g = orders-good x bx sx in
+        let q : Second u x =
+        record {
+          askable = a;
+          room =
+              never (ltb (u .addendum) (length (roundAddendum u x)))
+              (λ n. c .room (ap (λ (o : Outcome). o .answer) (first-is u x sx f) ∙ second-full u x (textLength x) sx f g a n));
+        } in
+        let is : roundOf u x ≡ joinRound u x b = stages u x (textLength x) sx g f q ∙ ap (joinRound u x) same in
+        let en = entered broker small u x bx sx shows a in
         let k : u .k ≡ eventCount b = c .whole ∙ ap (λ (o : Outcome). eventCount (o .addendum)) is ∙ ap eventCount (third-addendum u x b) in
         let nc = add-entries en in
         let rc = add-no-rows en in
         let tc = add-texts en in
         let lj : joinedLength x b (u .k) ≤ 1048576 = omega arith in
-        let t : Third u x b =
+        let j : Joinable u x b =
         record {
           sound = add-sound en;
           count = le-ltb (eventCount b) (u .k) (omega arith);
           size = not-large (joinedLength x b (u .k)) (eventCount x + u .k) (rowCount x + rowCount b) lj (omega arith) (omega arith);
-          room = le-ltb (u .joined) (joinedLength x b (u .k)) (omega (arith, c .joined));
+        } in
+        let t : Third u x b =
+        record {
+          joinable = j;
+          room = never (ltb (u .joined) (joinedLength x b (u .k))) (λ n. c .room (ap (λ (o : Outcome). o .answer) is ∙ third-full u x b sx j n));
         } in
         ap (λ (o : Outcome). done (o .answer)) is ∙ third-done u x b sx t
 

@@ -25,7 +25,7 @@ use Rattle.records.specs.declared.order.Order.{Order}
 use Rattle.effects.specs.Event.{Event, eventsOf}
 use Rattle.audit.specs.Verdict.{bookVerdict}
 use Rattle.audit.specs.declared.validate.Verdict.the-variants as Ver
-use Rattle.recovery.specs.Recover.{State, firstState, roomy, stateOf, timeLayout}
+use Rattle.recovery.specs.Recover.{State, stateOf, timeLayout}
 use Rattle.state.specs.State.{sameState}
 use Rattle.intents.specs.Intents.{reached, chosen}
 use Rattle.intents.specs.declared.Chosen.{Chosen}
@@ -116,9 +116,8 @@ pub record Uncut (broker : List BrokerOrderStatus) (log : List ℕ) (u : Round) 
   pub zeros : u .queries ≡ replicate (openIntents log) 0
   pub now : timeLayout (u .now) ≡ L.Sound
   pub time : timeLayout (u .time) ≡ L.Sound
-  pub records : roomy (u .orders) (u .positions) (firstState (u .now)) (eventsOf log) ≡ true
-  pub addendum : 1048576 ≤ u .addendum
-  pub joined : 1048576 ≤ u .joined
+  -- whatever room it has, refusal 3 is not its answer
+  pub room : roundOf u log .answer ≡ NoRoom → ⊥
   pub whole : Whole u log
 
 -- two logs recover to equal states

@@ -1,9 +1,9 @@
 -- Two ways on from the same orders, each to its own text, that leave none open: the orders are equal as states are compared. About no function.
 -- Assumes nothing.
 use Prim.Native.Nat.{ℕ, _+_, _≤_}
-use mathlib.Core.Path.{_≡_, refl, sym, _∙_}
-use mathlib.Core.List.{List, [], _∷_, _++_}
-use mathlib.Core.Bool.{true}
+use mathlib.Core.Path.{_≡_, refl, sym, ap, _∙_}
+use mathlib.Core.List.{List, [], _∷_, _++_, map}
+use mathlib.Core.Bool.{Bool, true}
 use native.Mathlib.Omega.{arith}
 use lib.IntN.{ℤ}
 use lib.ListN.{length}
@@ -18,6 +18,7 @@ use Rattle.cell.specs.Cell.{textIn}
 use Rattle.cell.specs.declared.TextRef.{TextRef}
 use Rattle.cell.specs.declared.AsStr.{AsStr}
 use Rattle.cell.specs.declared.AsStr.the-variants as Str
+use Rattle.records.specs.Record.{flag, flagsOf, present}
 use Rattle.records.specs.Search.{isIntent, countWhere}
 use Rattle.records.specs.declared.order.Order.{Order}
 use Rattle.effects.specs.Step.{asFailed}
@@ -110,3 +111,25 @@ ends-same s t u f (keep {o} {ps} p) (shut x e r q) a b = absurd (count-open o ps
 ends-same s t u f (shut x e r p) (keep {o} {ps} q) a b = absurd (count-open o ps e b)
 ends-same {c} s t u (Of.more f fs) (shut {o} {ps} x e r p) (shut {ps = qs} z e′ r′ q) a b =
     and-both (settled-same c s t u o x z f r r′) (ends-same s t u fs p q (count-tail (settle c x o) ps a) (count-tail (settle c z o) qs b))
+
+-- ---- the flags agree too, all five of them
+reads-present : (s t : List ℕ) (a b : AsStr) → Reads C.Nothing s a → Reads C.Nothing t b → present a ≡ present b
+reads-present s t Str.Nothing b h k = absurd h
+reads-present s t (Str.Is q) Str.Nothing h k = absurd k
+reads-present s t (Str.Is q) (Str.Is r) h k = refl
+
+settled-flags : (c : Chosen) (s t : List ℕ) (o : Order) (a b : AsStr) → Reads c s a → Reads c t b → flagsOf (settle c a o) ≡ flagsOf (settle c b o)
+settled-flags (C.Is id) s t o a b p q = refl
+settled-flags C.Nothing s t o a b p q =
+    ap (λ (v : Bool). flag (o .submitted) 1 + flag (o .filled) 2 + flag true 4 + flag (present (o .client)) 8 + flag v 16) (reads-present s t a b p q)
+
+pub ends-flags : {c : Chosen} {s t : List ℕ} {os ps qs : List Order} → Prog c s os ps → Prog c t os qs → countWhere isIntent ps ≡ 0 → countWhere isIntent qs ≡ 0
+    → map flagsOf ps ≡ map flagsOf qs
+ends-flags done done a b = refl
+ends-flags (keep {o} {ps} p) (keep {ps = qs} q) a b =
+    ap (λ (l : List ℕ). flagsOf o ∷ l) (ends-flags p q (count-tail o ps a) (count-tail o qs b))
+ends-flags (keep {o} {ps} p) (shut x e r q) a b = absurd (count-open o ps e a)
+ends-flags (shut x e r p) (keep {o} {ps} q) a b = absurd (count-open o ps e b)
+ends-flags {c} {s} {t} (shut {o} {ps} x e r p) (shut {ps = qs} z e′ r′ q) a b =
+    ap (λ (n : ℕ). n ∷ map flagsOf ps) (settled-flags c s t o x z r r′)
+    ∙ ap (λ (l : List ℕ). flagsOf (settle c z o) ∷ l) (ends-flags p q (count-tail (settle c x o) ps a) (count-tail (settle c z o) qs b))

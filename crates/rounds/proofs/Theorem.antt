@@ -3,7 +3,7 @@
 use Prim.Native.Nat.{ℕ, zero, suc, _+_, _-_, _*_, _^_, _≤_, _<_}
 use mathlib.Core.Path.{_≡_, refl, sym, ap, _∙_, subst}
 use mathlib.Core.Logic.{inl, inr}
-use mathlib.Core.List.{List, [], _∷_, _++_}
+use mathlib.Core.List.{List, [], _∷_, _++_, map}
 use mathlib.Core.Bool.{Bool, true, false, _||_, true≢false}
 use native.Mathlib.Omega.{arith}
 use lib.Dec.{ltb}
@@ -19,6 +19,7 @@ use Rattle.wire.proofs.Records.{Each}
 use Rattle.book.specs.Layout.{bookLayout, eventCount, rowCount, textLength, partsOk}
 use Rattle.book.specs.Event.{textOf}
 use Rattle.sheet.specs.declared.BrokerOrderStatus.{BrokerOrderStatus}
+use Rattle.records.specs.Record.{flagsOf}
 use Rattle.records.specs.Search.{isIntent, countWhere}
 use Rattle.records.specs.declared.order.Order.{Order}
 use Rattle.effects.specs.Event.{Event, eventsOf}
@@ -32,7 +33,7 @@ use Rattle.rounds.specs.Rounds.{Round, Outcome, joinRound, roundOf, next
 use Rattle.rounds.specs.Demand3.{recovered, openIntents, NoRepeat, lastNumber, added, isEntry, Follow, done, passes, Small, OneList, Fewer, Uncut, sameRecovered, Demand3}
 use Rattle.rounds.proofs.Settling.{by-bool, Written, written-length, written-follow}
 use Rattle.rounds.proofs.Progress.{Prog, prog-distinct, weight-none, among-weight, reached-all, tally, tally-one, written-hits, textWeight, texts-length}
-use Rattle.rounds.proofs.Ending.{RefsIn, ends-same}
+use Rattle.rounds.proofs.Ending.{RefsIn, ends-same, ends-flags}
 use Rattle.rounds.proofs.Stepping.{steps-number, timeless, noted, marks-same, positions-self}
 use Rattle.rounds.proofs.Accepted.{book-accepted}
 use Rattle.rounds.proofs.SoundBook.{book-length, text-length, orders-good}
@@ -193,14 +194,19 @@ module _ (broker : List BrokerOrderStatus) (small : Small (chosen broker)) where
         } in
         ap (λ (o : Outcome). done (o .answer)) is ∙ third-done u x b sx t
 
-    uncut-end : {y : List ℕ} → NoRepeat (recovered x .orders) → Led (chosen broker) x y → openIntents y ≡ 0 → sameRecovered y (next u x) ≡ true
-    uncut-end {y} d l e =
-        let m = led-next broker small u x bx sx d (λ h. shows) in
-        led-same bx sx l m e
-        (by-bool (passes u x)
+    -- refused or not, it leaves none open
+    uncut-led : NoRepeat (recovered x .orders) → Led (chosen broker) x (next u x)
+    uncut-led d = led-next broker small u x bx sx d (λ h. shows)
+
+    uncut-shut : {y : List ℕ} → NoRepeat (recovered x .orders) → Led (chosen broker) x y → openIntents y ≡ 0 → openIntents (next u x) ≡ 0
+    uncut-shut {y} d l e =
+        let m = uncut-led d in
+        by-bool (passes u x)
         (λ h.
-        omega (arith, led-total m, led-count m, next-count broker small u x bx sx shows h, whole-count broker small u x bx sx shows h (c .whole), uncut-reached))
-        (λ h. ap openIntents (round-refused u x h) ∙ by-zero (openIntents x) (λ z. true≢false (sym (uncut-ok l e z) ∙ h))))
+        let n = next-count broker small u x bx sx shows h in
+        let k = whole-count broker small u x bx sx shows h (c .whole) in
+        omega (arith, led-total m, led-count m, uncut-reached))
+        (λ h. ap openIntents (round-refused u x h) ∙ by-zero (openIntents x) (λ z. true≢false (sym (uncut-ok l e z) ∙ h)))
 
 -- ---- the theorem
 pub demand3 : (broker : List BrokerOrderStatus) → Small (chosen broker) → (rs : List Round) (log : List ℕ) → Bytes log → bookLayout log ≡ L.Sound
@@ -222,5 +228,13 @@ demand3 broker small rs log b s d one =
           (omega (arith, written-length (l .written), led-total l));
       numbers = subst (Follow (lastNumber 0 (eventsOf log))) (sym ad) (written-follow w);
       fewer = run-fewer broker small rs log b s d one;
-      ends = λ e u c. uncut-end broker small log b s u c d l e;
+      ends = λ e u c. led-same b s l (uncut-led broker small log b s u c d) e (uncut-shut broker small log b s u c d l e);
     }
+
+-- in the finer meaning too, which reads all five flags of each order
+pub ends-finer : (broker : List BrokerOrderStatus) → Small (chosen broker) → (rs : List Round) (log : List ℕ) → Bytes log → bookLayout log ≡ L.Sound
+    → NoRepeat (recovered log .orders) → OneList broker rs log → openIntents (run rs log) ≡ 0 → (u : Round) → Uncut broker log u
+    → map flagsOf (recovered (run rs log) .orders) ≡ map flagsOf (recovered (next u log) .orders)
+ends-finer broker small rs log b s d one e u c =
+    let l = led-run broker small rs log b s d one in
+    ends-flags (l .prog) (uncut-led broker small log b s u c d .prog) e (uncut-shut broker small log b s u c d l e)

@@ -1,0 +1,5 @@
+pub mod Queries
+pub mod Entries
+pub mod Counts
+pub mod Walks
+pub mod Addenda

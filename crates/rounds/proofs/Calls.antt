@@ -75,7 +75,7 @@ unfolding roundOf
 round-refused r log h = recovery-refused r log (recovery log (r .now) (r .orders) (r .positions)) h
 
 -- ---- layouts
-both-sound : (a b : Layout) → bothOf a b ≡ L.Sound → (a ≡ L.Sound) × (b ≡ L.Sound)
+pub both-sound : (a b : Layout) → bothOf a b ≡ L.Sound → (a ≡ L.Sound) × (b ≡ L.Sound)
 both-sound L.Sound b h = (refl, h)
 both-sound L.Oversize b h = let z : _≡_ {A = ℕ} 0 1 = cc in absurd (omega arith)
 both-sound L.Broken L.Sound h = let z : _≡_ {A = ℕ} 0 1 = cc in absurd (omega arith)
@@ -83,7 +83,7 @@ both-sound L.Broken L.Oversize h = let z : _≡_ {A = ℕ} 0 1 = cc in absurd (o
 both-sound L.Broken L.Broken h = let z : _≡_ {A = ℕ} 0 1 = cc in absurd (omega arith)
 
 -- what is read from the front of a buffer
-take-padded : (n : ℕ) (s : List ℕ) → take (length s) (padded n s) ≡ s
+pub take-padded : (n : ℕ) (s : List ℕ) → take (length s) (padded n s) ≡ s
 unfolding padded
 take-padded n s = take-at s (replicate (n - length s) 0) (length s) refl
 
@@ -97,7 +97,7 @@ pub record First (r : Round) (log : List ℕ) : Type 0 where
   pub now : timeLayout (r .now) ≡ L.Sound
   pub room : roomy (r .orders) (r .positions) (firstState (r .now)) (eventsOf log) ≡ true
 
-done-parts : (l : Layout) (b : Bool) (st : State) (x : Recovered) → refusedOr l (doneIf b st) ≡ Rec.Done x → (l ≡ L.Sound) × (b ≡ true)
+pub done-parts : (l : Layout) (b : Bool) (st : State) (x : Recovered) → refusedOr l (doneIf b st) ≡ Rec.Done x → (l ≡ L.Sound) × (b ≡ true)
 done-parts L.Sound true st x h = (refl, refl)
 done-parts L.Sound false st x h = let z : _≡_ {A = ℕ} 0 1 = cc in absurd (omega arith)
 done-parts L.Oversize b st x h = let z : _≡_ {A = ℕ} 0 1 = cc in absurd (omega arith)
@@ -212,7 +212,7 @@ record Answered (r : Round) (len : ℕ) (os : List Order) (k : ℕ) (a : List �
   room : ltb (r .addendum) (length a) ≡ false
   length : y .length ≡ length a
 
-reconciles-done : (l : Layout) (b : Bool) (a : List ℕ) (n m room : ℕ) (y : Reconciled) → reconcilesIf l b a n m room ≡ Ask.Done y
+pub reconciles-done : (l : Layout) (b : Bool) (a : List ℕ) (n m room : ℕ) (y : Reconciled) → reconcilesIf l b a n m room ≡ Ask.Done y
     → (l ≡ L.Sound) × (b ≡ true) × (tooLarge (length a) n 0 ≡ false) × (ltb room (length a) ≡ false) × (y .length ≡ length a)
 reconciles-done L.Oversize b a n m room y h = let z : _≡_ {A = ℕ} 0 1 = cc in absurd (omega arith)
 reconciles-done L.Broken b a n m room y h = let z : _≡_ {A = ℕ} 0 1 = cc in absurd (omega arith)
@@ -228,7 +228,7 @@ reconciles-done L.Sound true a n m room y h = by (tooLarge (length a) n 0) (ltb 
         let e : record { entries = n; unreached = m; length = length a } ≡ y = cc in
         (refl, refl, p, q, sym (ap (λ (z : Reconciled). z .length) e))
 
-never-broken : (l : Layout) (y : Reconciled) (n : ℕ) → reconcilesIf (bothOf l L.Broken) true [] 0 0 n ≡ Ask.Done y → ⊥
+pub never-broken : (l : Layout) (y : Reconciled) (n : ℕ) → reconcilesIf (bothOf l L.Broken) true [] 0 0 n ≡ Ask.Done y → ⊥
 never-broken L.Sound y n h = let z : _≡_ {A = ℕ} 0 1 = cc in omega arith
 never-broken L.Oversize y n h = let z : _≡_ {A = ℕ} 0 1 = cc in omega arith
 never-broken L.Broken y n h = let z : _≡_ {A = ℕ} 0 1 = cc in omega arith

@@ -17,6 +17,7 @@ pub mod Accepted
 pub mod Spelling
 pub mod SoundBook
 pub mod Calls
+pub mod RoundOut
 pub mod EntriesJoined
 pub mod Leading
 pub mod OneRound

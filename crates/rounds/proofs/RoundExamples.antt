@@ -8,7 +8,7 @@ use mathlib.Core.Bool.{Bool, true, true≢false}
 use lib.Dec.{ltb, lit<}
 use lib.Ieee.{ofBits}
 use lib.IntN.{pos}
-use lib.ListN.{length, replicate}
+use lib.ListN.{length, take, replicate}
 use borrow.Author.Tests.{ltb-true}
 use Rattle.wire.specs.Le.{le, bytesOf, sameBytes}
 use Rattle.wire.specs.Table.{every, records, encoded, padded}
@@ -30,17 +30,18 @@ use Rattle.audit.specs.Verdict.{firstFault, walk, found, place, lastEmpty, rule
 use Rattle.audit.specs.declared.validate.Verdict.the-variants as Ver
 use Rattle.audit.proofs.BookBytes.{EventParts, part, numbered, numberedWith, eventTable, bookBytes}
 use Rattle.recovery.specs.Action.{actionOf}
-use Rattle.recovery.specs.Recover.{steps, roomy, recovery, ordersOut}
+use Rattle.recovery.specs.Recover.{steps, roomy, recovery, ordersOut, positionsOut}
 use Rattle.join.specs.Join.{bookOf, each, movedCell, movedRow, movedEvent, joined, joining, joinOut}
 use Rattle.intents.specs.Intents.{query, chosen, reached, unreached, entryText, entryBytes, entryTable, entryTexts, addendum, reconciling, addendumOut}
 use Rattle.intents.specs.Intents as Lent
-use Rattle.rounds.specs.Rounds.{Round, joinRound, reconcileRound, roundOf, next, run}
+use Rattle.rounds.specs.Rounds.{Round, joinRound, reconcileRound, roundOf, next, run, roundOrdersOut, roundPositionsOut, roundAddendumOut, roundLogOut, roundWith}
 use Rattle.rounds.specs.Demand3.{recovered, openIntents, NoRepeat, added, done, passes, answered, Small, OneList, Uncut, sameRecovered, Demand3}
+use Rattle.rounds.specs.declared.Rounded.the-variants as R
 use Rattle.rounds.proofs.Theorem.{demand3}
 
 -- all that the examples go through
 unfoldable opened : Unit {0}
-unfolding le bytesOf sameBytes every records encoded padded allOf parses parsed fieldOk wideFieldOk cellBy cellOf payloadOk cellOk rowCellOk rowOk windowOk headOk eventHeadOk eventOk Book.offsetsOk tablesOk partsOk bookLayout eventName checkpoints namedAmong named Sheet.offsetsOk markOk headerOk brokerOrderOk Sheet.partsOk sheetLayout sheetOrders orderBytes orderOf orderOk tableOk anyWhere countWhere changeFirst marksAt marksBy positionsOfRows intended ordersAt positionsAt ordersBy positionsBy firstFault walk found place lastEmpty rules verdictOf bookVerdict eventTable bookBytes actionOf steps roomy recovery ordersOut bookOf each movedCell movedRow movedEvent joined joining joinOut query chosen reached unreached entryText entryBytes entryTable entryTexts addendum reconciling addendumOut Lent.lentAddendum joinRound reconcileRound roundOf run ofBits
+unfolding le bytesOf sameBytes every records encoded padded allOf parses parsed fieldOk wideFieldOk cellBy cellOf payloadOk cellOk rowCellOk rowOk windowOk headOk eventHeadOk eventOk Book.offsetsOk tablesOk partsOk bookLayout eventName checkpoints namedAmong named Sheet.offsetsOk markOk headerOk brokerOrderOk Sheet.partsOk sheetLayout sheetOrders orderBytes orderOf orderOk tableOk anyWhere countWhere changeFirst marksAt marksBy positionsOfRows intended ordersAt positionsAt ordersBy positionsBy firstFault walk found place lastEmpty rules verdictOf bookVerdict eventTable bookBytes actionOf steps roomy recovery ordersOut positionsOut bookOf each movedCell movedRow movedEvent joined joining joinOut query chosen reached unreached entryText entryBytes entryTable entryTexts addendum reconciling addendumOut Lent.lentAddendum joinRound reconcileRound roundOf roundOrdersOut roundPositionsOut roundAddendumOut roundLogOut run ofBits
 opened = tt
 
 -- ---- logs
@@ -164,6 +165,23 @@ sample-uncut =
 
 sample-same : sameRecovered (run sampleRounds sample) (next uncut sample) ≡ true
 sample-same = sample-demand .ends (sample-ends .0) uncut sample-uncut
+
+-- ---- the buffers of a round that is done, and of one refused by 13 once its addendum was written
+unfoldable lentRound : ℕ → Round
+unfolding sheetOf
+lentRound k = roundWith (sheetOf 78) (0 ∷ 0 ∷ []) (pos 7) (pos 9) k 192 32 600 2500
+
+done-out : (roundOf (lentRound 2) sample .answer ≡ R.Done 2319) × (openIntents (take 2319 (roundLogOut (lentRound 2) sample)) ≡ 0)
+    × (length (roundLogOut (lentRound 2) sample) ≡ 2500) × (le 4 (roundAddendumOut (lentRound 2) sample) ≡ 2)
+    × (length (roundOrdersOut (lentRound 2) sample) ≡ 192)
+unfolding opened intent begun twoIntents sheetOf sample lentRound
+done-out = (refl, refl, refl, refl, refl)
+
+refused-out : (roundOf (lentRound 3) sample .answer ≡ R.TooMany) × (roundLogOut (lentRound 3) sample ≡ replicate 2500 0)
+    × (roundAddendumOut (lentRound 3) sample ≡ replicate 600 0) × (roundOrdersOut (lentRound 3) sample ≡ replicate 192 0)
+    × (roundPositionsOut (lentRound 3) sample ≡ replicate 32 0)
+unfolding opened intent begun twoIntents sheetOf sample lentRound
+refused-out = (refl, refl, refl, refl, refl)
 
 -- ---- two symbols that don't parse are both UNKNOWN: after a whole round there are two entries, and one intent is open
 unfoldable unparsed : List ℕ

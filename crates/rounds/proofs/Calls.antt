@@ -377,7 +377,7 @@ third-passed r log b s h =
     let p = joins-done (bothOf (bookLayout log) (bookLayout b)) log b (r .k) (r .joined) (v .given) (v .is) in
     record { joinable = record { sound = both-sound (bookLayout log) (bookLayout b) (p .0) .1; count = p .1; size = p .2 }; room = p .3 }
 
-joining-is : (r : Round) (log b : List ℕ) → bookLayout log ≡ L.Sound → Third r log b → joining log b (r .k) (r .joined) ≡ Joins.Done (joinedLength log b (r .k))
+pub joining-is : (r : Round) (log b : List ℕ) → bookLayout log ≡ L.Sound → Third r log b → joining log b (r .k) (r .joined) ≡ Joins.Done (joinedLength log b (r .k))
 unfolding joining
 joining-is r log b s t = rw (s, t .joinable .sound, t .joinable .count, t .joinable .size, t .room)
 

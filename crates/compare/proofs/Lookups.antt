@@ -1,0 +1,59 @@
+-- What one record adds: the quantity that is expected of a symbol, an open intent, the last mark.
+-- Assumes nothing.
+use Prim.Native.Nat.{ℕ, zero, suc, _+_, _*_, _≤_, _<_}
+use mathlib.Core.Path.{_≡_, refl, ap, _∙_}
+use mathlib.Core.List.{List}
+use mathlib.Core.Bool.{true, false, not, _&&_}
+use native.Mathlib.Omega.{arith}
+use lib.ListN.{drop}
+use Rattle.wire.specs.Table.{records}
+use Rattle.symbol.specs.declared.Symbol.{Symbol}
+use Rattle.cell.specs.declared.TextRef.{TextRef}
+use Rattle.cell.specs.declared.AsStr.{AsStr}
+use Rattle.cell.specs.declared.AsStr.the-variants as Str
+use Rattle.records.specs.Record.{present, positionOf}
+use Rattle.records.specs.Search.{holds}
+use Rattle.records.specs.declared.order.Order.{Order}
+use Rattle.records.proofs.Walk.{rest, rest-all, rest-next, rest-none}
+use Rattle.marks.specs.declared.Marks.{Marks}
+use Rattle.compare.specs.Report.{notedIf, expectedOf, intentWith, unanswered}
+use Rattle.compare.specs.Buffer.{markAt}
+use Rattle.compare.specs.declared.discrepancy.Discrepancy.the-variants.{IncompleteIntent, IncompleteCancelIntent}
+use Rattle.compare.specs.declared.discrepancy.Noted.the-variants.{Is, Nothing}
+use Rattle.compare.specs.declared.search.Expected.the-variants as E
+
+module _ (y : Symbol) (n : ℕ) (s : List ℕ) where
+  pub expected-all : expectedOf y (records positionOf 32 n s) ≡ expectedOf y (rest positionOf 32 n s 0)
+  expected-all = ap (expectedOf y) (rest-all positionOf 32 n s)
+
+  pub expected-here : (i : ℕ) → i < n → holds y (positionOf (drop (32 * i) s)) ≡ true
+      → expectedOf y (rest positionOf 32 n s i) ≡ E.Is (positionOf (drop (32 * i) s) .quantity)
+  unfolding expectedOf
+  expected-here i h e = rw (rest-next positionOf 32 n s i h, e)
+
+  pub expected-on : (i : ℕ) → i < n → holds y (positionOf (drop (32 * i) s)) ≡ false
+      → expectedOf y (rest positionOf 32 n s i) ≡ expectedOf y (rest positionOf 32 n s (i + 1))
+  unfolding expectedOf
+  expected-on i h e = rw (rest-next positionOf 32 n s i h, e)
+
+  pub expected-end : (i : ℕ) → n ≤ i → expectedOf y (rest positionOf 32 n s i) ≡ E.Nothing
+  unfolding expectedOf
+  expected-end i h = rw (rest-none positionOf 32 n s i h)
+
+-- ---- an order that is no open intent, and one that is
+pub no-intent : (o : Order) (t : AsStr) → (present t && not (o .submitted) && not (o .failed)) ≡ false → Nothing ≡ intentWith o t
+no-intent o (Str.Is r) h = rw h
+no-intent o Str.Nothing h = refl
+
+pub an-intent : (o : Order) (t : AsStr) (r : TextRef) → t ≡ Str.Is r → (present t && not (o .submitted) && not (o .failed)) ≡ true
+    → Is (IncompleteIntent (o .symbol) r) ≡ intentWith o t
+an-intent o t r e h =
+    let b : (not (o .submitted) && not (o .failed)) ≡ true = rw e at h in
+    rw (e, b)
+
+-- the fourth mark
+pub mark-last : (m : Marks) (i : ℕ) → 3 ≤ i → markAt m i ≡ notedIf (unanswered (m .cancel)) IncompleteCancelIntent
+mark-last m zero h = absurd (omega arith)
+mark-last m (suc zero) h = absurd (omega arith)
+mark-last m (suc (suc zero)) h = absurd (omega arith)
+mark-last m (suc (suc (suc i))) h = refl

@@ -1,0 +1,104 @@
+-- `compare_broker_state`: by the layout's case.
+use borrow.Author.Needs.{needs}
+use Rattle.compare.proofs.compare_broker_state.Statement.{statement}
+use Rattle.compare.proofs.compare_broker_state.Tie as tie
+use mathlib.Core.Path.{_≡_, refl, _∙_}
+use denote.Ref.{now}
+use lib.ListN.{length}
+use Rattle.wire.specs.declared.layout.Layout.the-variants as L
+use Rattle.compare.specs.Compare.{lentReport, lentLayout, comparison, reportOut}
+use Rattle.compare.proofs.Adding.{answers-at}
+
+check-orders-requires : tie.Need-check-orders-requires
+check-orders-requires c κs = search needs
+
+check-positions-requires : tie.Need-check-positions-requires
+check-positions-requires c κs = search needs
+
+both-requires : tie.Need-both-requires
+both-requires c κs = search needs
+
+check-requires : tie.Need-check-requires
+check-requires c κs = search needs
+
+both-requires-2 : tie.Need-both-requires-2
+both-requires-2 c κs = search needs
+
+enum-told : tie.Need-enum-told
+enum-told c = search needs
+
+report-requires : tie.Need-report-requires
+report-requires c κs = search needs
+
+answered-requires : tie.Need-answered-requires
+answered-requires c κs = search needs
+
+enum-told-2 : tie.Need-enum-told-2
+enum-told-2 c = search needs
+
+clear-requires : tie.Need-clear-requires
+clear-requires c κs = search needs
+
+enum-told-3 : tie.Need-enum-told-3
+enum-told-3 c = search needs
+
+clear-requires-2 : tie.Need-clear-requires-2
+clear-requires-2 c κs = search needs
+
+same-length : tie.Need-same-length
+same-length c = search needs
+
+returns : tie.Need-returns
+unfolding comparison reportOut
+returns c =
+    let a = c .before .before .before .before .before .before .before .before .before .before .before .before .before .before .before .before .before .before .before .args in
+    let e : lentLayout (now (a .orders)) (now (a .positions)) (now (a .sheet)) ≡ L.Sound =
+        rw (← c .before .before .before .before .before .before .before .before .before .before .before .check .ensures, ← c .before .before .before .before .before .before .before .before .before .before .before .before .before .before .check-orders .ensures, ← c .before .before .before .before .before .before .before .before .before .before .before .before .before .check-positions .ensures, ← c .before .before .before .before .before .before .before .before .before .before .before .before .both .ensures, ← c .before .before .before .before .before .before .before .before .before .before .both2 .ensures) (c .before .before .before .before .before .before .before .before .enum-told .given .1) in
+    let r = c .before .before .before .before .before .before .report in
+    rw e
+    (answers-at (length (now (a .out))) (lentReport (a .marks) (now (a .orders)) (now (a .positions)) (now (a .sheet))) (r .result) (r .last .0) (c .before .before .answered .last .0) (c .before .before .answered .result) (r .kept .0) (c .before .before .answered .ensures) (r .ensures))
+
+same-length-2 : tie.Need-same-length-2
+same-length-2 c = search needs
+
+returns-2 : tie.Need-returns-2
+unfolding comparison reportOut
+returns-2 c =
+    let a = c .before .before .before .before .before .before .before .before .before .before .before .before .before .before .before .args in
+    let e : lentLayout (now (a .orders)) (now (a .positions)) (now (a .sheet)) ≡ L.Oversize =
+        rw (← c .before .before .before .before .before .before .before .check .ensures, ← c .before .before .before .before .before .before .before .before .before .before .check-orders .ensures, ← c .before .before .before .before .before .before .before .before .before .check-positions .ensures, ← c .before .before .before .before .before .before .before .before .both .ensures, ← c .before .before .before .before .before .before .both2 .ensures) (c .before .before .before .before .enum-told2 .given .1) in
+    rw e (refl, c .before .before .clear .ensures)
+
+same-length-3 : tie.Need-same-length-3
+same-length-3 c = search needs
+
+returns-3 : tie.Need-returns-3
+unfolding comparison reportOut
+returns-3 c =
+    let a = c .before .before .before .before .before .before .before .before .before .before .before .before .before .before .before .args in
+    let e : lentLayout (now (a .orders)) (now (a .positions)) (now (a .sheet)) ≡ L.Broken =
+        rw (← c .before .before .before .before .before .before .before .check .ensures, ← c .before .before .before .before .before .before .before .before .before .before .check-orders .ensures, ← c .before .before .before .before .before .before .before .before .before .check-positions .ensures, ← c .before .before .before .before .before .before .before .before .both .ensures, ← c .before .before .before .before .before .before .both2 .ensures) (c .before .before .before .before .enum-told3 .given .1) in
+    rw e (refl, c .before .before .clear2 .ensures)
+
+pub compare-broker-state-spec : {M : Type 1} → statement M
+compare-broker-state-spec =
+    tie.close
+    (tie.spec
+    check-orders-requires
+    check-positions-requires
+    both-requires
+    check-requires
+    both-requires-2
+    enum-told
+    report-requires
+    answered-requires
+    enum-told-2
+    clear-requires
+    enum-told-3
+    clear-requires-2
+    same-length
+    returns
+    same-length-2
+    returns-2
+    same-length-3
+    returns-3)

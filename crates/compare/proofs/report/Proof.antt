@@ -1,0 +1,80 @@
+-- `report`: each pass behind those before it.
+use borrow.Author.Needs.{needs}
+use Rattle.compare.proofs.report.Statement.{statement}
+use Rattle.compare.proofs.report.Tie as tie
+use mathlib.Core.Path.{_≡_, _∙_}
+use mathlib.Core.List.{List, [], _++_}
+use denote.Ref.{now}
+use lib.ListN.{length}
+use Rattle.compare.specs.Report.{report}
+use Rattle.compare.specs.Buffer.{Holds, passOf}
+use Rattle.compare.specs.declared.discrepancy.Discrepancy.{Discrepancy}
+use Rattle.compare.specs.declared.discrepancy.Stored.the-variants as S
+use Rattle.compare.specs.declared.passes.Pass.{Pass}
+use Rattle.compare.specs.declared.passes.Pass.the-variants.{Orphans, MissingOrders, BrokerPositions, RecoveredPositions, Intents, IncompleteMarks}
+use Rattle.compare.proofs.Adding.{holds-none, holds-more}
+
+clear-requires : tie.Need-clear-requires
+clear-requires c κs = search needs
+
+run-requires : tie.Need-run-requires
+run-requires c κs = search needs
+
+run-requires-2 : tie.Need-run-requires-2
+run-requires-2 c κs = search needs
+
+run-requires-3 : tie.Need-run-requires-3
+run-requires-3 c κs = search needs
+
+run-requires-4 : tie.Need-run-requires-4
+run-requires-4 c κs = search needs
+
+run-requires-5 : tie.Need-run-requires-5
+run-requires-5 c κs = search needs
+
+run-requires-6 : tie.Need-run-requires-6
+run-requires-6 c κs = search needs
+
+same-length : tie.Need-same-length
+same-length c = c .before .before .run6 .kept .0 ∙ c .before .before .before .before .before .before .run5 .kept .0 ∙ c .before .before .before .before .before .before .before .before .before .before .run4 .kept .0 ∙ c .before .before .before .before .before .before .before .before .before .before .before .before .before .before .run3 .kept .0 ∙ c .before .before .before .before .before .before .before .before .before .before .before .before .before .before .before .before .before .before .run2 .kept .0 ∙ c .before .before .before .before .before .before .before .before .before .before .before .before .before .before .before .before .before .before .before .before .before .before .run .kept .0 ∙ c .before .before .before .before .before .before .before .before .before .before .before .before .before .before .before .before .before .before .before .before .before .before .before .before .before .before .clear .kept .0
+
+returns : tie.Need-returns
+unfolding report
+returns c =
+    let a = c .before .before .before .before .before .before .before .before .before .before .before .before .before .before .before .before .before .before .before .before .before .before .before .before .before .before .before .before .before .before .before .before .args in
+    let len = length (now (a .out)) in
+    let of : Pass → List Discrepancy = λ p. passOf p (a .marks) (now (a .orders)) (now (a .positions)) (now (a .sheet)) in
+    let c0 = c .before .before .before .before .before .before .before .before .before .before .before .before .before .before .before .before .before .before .before .before .before .before .before .before .before .before .clear in
+    let h0 : Holds (S.Is 0) [] len (c0 .last .0) = rw (c0 .ensures) (holds-none len) in
+    let r1 = c .before .before .before .before .before .before .before .before .before .before .before .before .before .before .before .before .before .before .before .before .before .before .run in
+    let k1 = c0 .kept .0 in
+    let h1 = holds-more len [] (of Orphans) (S.Is 0) (r1 .result) (c0 .last .0) (r1 .last .0) k1 (r1 .ensures) h0 in
+    let r2 = c .before .before .before .before .before .before .before .before .before .before .before .before .before .before .before .before .before .before .run2 in
+    let k2 = r1 .kept .0 ∙ k1 in
+    let h2 = holds-more len (of Orphans) (of MissingOrders) (r1 .result) (r2 .result) (r1 .last .0) (r2 .last .0) k2 (r2 .ensures) h1 in
+    let r3 = c .before .before .before .before .before .before .before .before .before .before .before .before .before .before .run3 in
+    let k3 = r2 .kept .0 ∙ k2 in
+    let h3 = holds-more len (of Orphans ++ of MissingOrders) (of BrokerPositions) (r2 .result) (r3 .result) (r2 .last .0) (r3 .last .0) k3 (r3 .ensures) h2 in
+    let r4 = c .before .before .before .before .before .before .before .before .before .before .run4 in
+    let k4 = r3 .kept .0 ∙ k3 in
+    let h4 = holds-more len (of Orphans ++ of MissingOrders ++ of BrokerPositions) (of RecoveredPositions) (r3 .result) (r4 .result) (r3 .last .0) (r4 .last .0) k4 (r4 .ensures) h3 in
+    let r5 = c .before .before .before .before .before .before .run5 in
+    let k5 = r4 .kept .0 ∙ k4 in
+    let h5 = holds-more len (of Orphans ++ of MissingOrders ++ of BrokerPositions ++ of RecoveredPositions) (of Intents) (r4 .result) (r5 .result) (r4 .last .0) (r5 .last .0) k5 (r5 .ensures) h4 in
+    let r6 = c .before .before .run6 in
+    let k6 = r5 .kept .0 ∙ k5 in
+    holds-more len (of Orphans ++ of MissingOrders ++ of BrokerPositions ++ of RecoveredPositions ++ of Intents) (of IncompleteMarks) (r5 .result) (r6 .result) (r5 .last .0) (r6 .last .0) k6 (r6 .ensures) h5
+
+pub report-spec : {M : Type 1} → statement M
+report-spec =
+    tie.close
+    (tie.spec
+    clear-requires
+    run-requires
+    run-requires-2
+    run-requires-3
+    run-requires-4
+    run-requires-5
+    run-requires-6
+    same-length
+    returns)

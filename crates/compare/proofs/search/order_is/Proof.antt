@@ -1,0 +1,41 @@
+-- `search::order_is`: by the calls.
+use borrow.Author.Needs.{needs}
+use Rattle.compare.proofs.search.order_is.Statement.{statement}
+use Rattle.compare.proofs.search.order_is.Tie as tie
+use mathlib.Core.Path.{ap, _∙_}
+use mathlib.Core.List.{List}
+use Prim.Native.Nat.{ℕ}
+use lib.Dec.{eqb}
+use lib.IntN.{ℤ}
+use lib.ListN.{drop}
+use mir.Syntax.{w32}
+use mir.Val.{toZ}
+use mir.ValLaws.{toZ-ofZ}
+use Rattle.wire.specs.Le.{le}
+use Rattle.types.specs.Order.{signExtended}
+use Rattle.records.specs.Record.{orderOf}
+
+from-requires : tie.Need-from-requires
+from-requires c κs = search needs
+
+u32-at-requires : tie.Need-u32-at-requires
+u32-at-requires c κs = search needs
+
+signed32-requires : tie.Need-signed32-requires
+signed32-requires c κs = search needs
+
+is-ibkr-requires : tie.Need-is-ibkr-requires
+is-ibkr-requires c κs = search needs
+
+returns : tie.Need-returns
+unfolding orderOf
+returns c =
+    let a = c .before .before .before .before .before .args in
+    let r = c .before .signed32 in
+    c .is-ibkr .ensures
+    ∙ ap (λ (z : ℤ). eqb (signExtended z) (a .id .0))
+    (toZ-ofZ w32 (r .result) (record { sfits = r .ok }) ∙ r .ensures ∙ ap (toZ w32) (c .before .before .u32-at .ensures ∙ ap (λ (t : List ℕ). le 4 (drop 12 t)) (c .before .before .before .from .ensures)))
+
+pub order-is-spec : {M : Type 1} → statement M
+order-is-spec =
+    tie.close (tie.spec from-requires u32-at-requires signed32-requires is-ibkr-requires returns)

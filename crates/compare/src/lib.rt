@@ -1,0 +1,104 @@
+// compare_broker_state: the broker's sheet against what was recovered, as a report of discrepancies in a lent buffer.
+//
+// `specs/Report.antt` has the report over values, pass by pass, and its records of 48 bytes; `specs/Compare.antt` the entry's answer and bytes.
+pub mod discrepancy;
+pub mod passes;
+mod search;
+
+ghost use mathlib.Core.Path.{_≡_};
+ghost use Prim.Native.Nat.{_*_};
+ghost use lib.ListN.{length, drop};
+ghost use Rattle.wire.specs.Le.{le};
+ghost use Rattle.compare.specs.Compare.{lentReport, comparison, reportOut};
+ghost use Rattle.compare.specs.Buffer.{Holds, Answers};
+use discrepancy::Stored;
+use marks::Marks;
+use passes::Pass;
+use wire::layout::Layout;
+
+// How many discrepancies the report has, and whether there is any.
+pub struct Compared {
+    pub count: usize,
+    pub critical: bool,
+}
+
+pub enum Comparison {
+    Done(Compared),
+    // Refusal 1: the sheet lists too many orders or positions.
+    Oversize,
+    // Refusal 2: the sheet, the orders or the positions are broken.
+    Broken,
+    // Refusal 3: the buffer cannot take all discrepancies.
+    NoRoom,
+}
+
+// The passes of document 01, in its order, each behind what the ones before it reported.
+fn report(out: &mut [u8], marks: Marks, orders: &[u8], positions: &[u8], sheet: &[u8]) -> Stored
+    ensures { λ r. ⌜ Holds r (lentReport marks (now (orders .entry)) (now (positions .entry)) (now (sheet .entry))) (length (now (out .entry))) (now (out .exit)) ⌝ }
+{
+    wire::clear(out);
+    let s = Stored::Is(0);
+    let s = passes::run(out, s, Pass::Orphans, marks, orders, positions, sheet);
+    let s = passes::run(out, s, Pass::MissingOrders, marks, orders, positions, sheet);
+    let s = passes::run(out, s, Pass::BrokerPositions, marks, orders, positions, sheet);
+    let s = passes::run(out, s, Pass::RecoveredPositions, marks, orders, positions, sheet);
+    let s = passes::run(out, s, Pass::Intents, marks, orders, positions, sheet);
+    passes::run(out, s, Pass::IncompleteMarks, marks, orders, positions, sheet)
+}
+
+// The report's answer. A buffer that cannot take it is all zero again.
+fn answered(out: &mut [u8], s: Stored) -> Comparison
+    ensures { λ r. ⌜ Answers s (length (now (out .entry))) (now (out .entry)) r (now (out .exit)) ⌝ }
+{
+    match s {
+        Stored::Is(count) => Comparison::Done(Compared {
+            count,
+            critical: 0 < count,
+        }),
+        Stored::Full => {
+            wire::clear(out);
+            Comparison::NoRoom
+        }
+    }
+}
+
+// Entry. The report of discrepancies between the sheet and the recovered state, as records of 48 bytes. Refusal 1 of the sheet, then 2 of the
+// sheet, the orders and the positions, then 3 where the buffer cannot take all records.
+pub fn compare_broker_state(
+    marks: Marks,
+    orders: &[u8],
+    positions: &[u8],
+    sheet: &[u8],
+    out: &mut [u8],
+) -> Comparison
+    ensures { λ r. ⌜ (r ≡ comparison marks (now (orders .entry)) (now (positions .entry)) (now (sheet .entry)) (length (now (out .entry)))) × (now (out .exit) ≡ reportOut marks (now (orders .entry)) (now (positions .entry)) (now (sheet .entry)) (length (now (out .entry)))) ⌝ }
+{
+    let lent = wire::layout::both(
+        records::order::check_orders(orders),
+        records::position::check_positions(positions),
+    );
+    match wire::layout::both(sheet::check(sheet), lent) {
+        Layout::Sound => {
+            let s = report(out, marks, orders, positions, sheet);
+            answered(out, s)
+        }
+        Layout::Oversize => {
+            wire::clear(out);
+            Comparison::Oversize
+        }
+        Layout::Broken => {
+            wire::clear(out);
+            Comparison::Broken
+        }
+    }
+}
+
+// The kind of a report's record at index `i`, counted from 0: zero past the end.
+pub fn kind_at(report: &[u8], i: usize) -> u32
+    ensures { λ r. ⌜ r ≡ le 4 (drop (48 * i) (now (report .entry))) ⌝ }
+{
+    if report.len() / 48 < i {
+        return 0;
+    }
+    wire::u32_at(report, 48 * i)
+}

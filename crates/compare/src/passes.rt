@@ -1,0 +1,201 @@
+// The passes of the comparison. Each goes over one list, and notes what a record of it adds to the report.
+ghost use mathlib.Core.Path.{_≡_};
+ghost use Prim.Native.Nat.{_<_};
+ghost use lib.ListN.{length, drop};
+ghost use Rattle.records.specs.Record.{orderOf, ordersIn, positionOf, positionsIn};
+ghost use Rattle.sheet.specs.Sheet.{sheetOrders, sheetPositions};
+ghost use Rattle.compare.specs.Report.{orphan, missing, mismatch, unlisted, intent, notedIf, unanswered};
+ghost use Rattle.compare.specs.Buffer.{Adds, passCount, passAt, passOf, markAt};
+use crate::discrepancy;
+use crate::discrepancy::Discrepancy;
+use crate::discrepancy::Noted;
+use crate::discrepancy::Stored;
+use crate::search;
+use crate::search::Expected;
+use cell::AsStr;
+use marks::Marks;
+use marks::Pair;
+use sheet::BrokerOrderStatus;
+use sheet::BrokerPosition;
+
+pub enum Pass {
+    Orphans,
+    MissingOrders,
+    BrokerPositions,
+    RecoveredPositions,
+    Intents,
+    IncompleteMarks,
+}
+
+// A broker's order that no recovered one names.
+fn orphan(orders: &[u8], b: BrokerOrderStatus) -> Noted
+    ensures { λ r. ⌜ r ≡ orphan (ordersIn (now (orders .entry))) b ⌝ }
+{
+    let id = b.id;
+    if search::recovers(orders, id) {
+        return Noted::Nothing;
+    }
+    let status = b.status;
+    Noted::Is(Discrepancy::OrphanOrder(id, status))
+}
+
+// The recovered order at a place, where it is submitted, not filled and not listed.
+fn missing(orders: &[u8], at: usize, sheet: &[u8]) -> Noted
+    ensures { λ r. ⌜ r ≡ missing (sheetOrders (now (sheet .entry))) (orderOf (drop at (now (orders .entry)))) ⌝ }
+{
+    if !records::search::unfilled_at(orders, at) {
+        return Noted::Nothing;
+    }
+    let o = records::order::order_at(orders, at);
+    if search::lists(sheet, types::order::sign_extended(o.id)) {
+        return Noted::Nothing;
+    }
+    let symbol = o.symbol;
+    Noted::Is(Discrepancy::MissingOrder(symbol))
+}
+
+// A broker's position whose quantity is not the recovered one.
+fn mismatch(positions: &[u8], b: BrokerPosition) -> Noted
+    ensures { λ r. ⌜ r ≡ mismatch (positionsIn (now (positions .entry))) b ⌝ }
+{
+    let symbol = b.symbol;
+    let Expected::Is(quantity) = search::expected_of(positions, symbol) else {
+        return Noted::Nothing;
+    };
+    if quantity == b.quantity {
+        return Noted::Nothing;
+    }
+    Noted::Is(Discrepancy::PositionMismatch(symbol, b.quantity, quantity))
+}
+
+// The recovered position at a place, where the broker has none of its symbol.
+fn unlisted(positions: &[u8], at: usize, sheet: &[u8]) -> Noted
+    ensures { λ r. ⌜ r ≡ unlisted (sheetPositions (now (sheet .entry))) (positionOf (drop at (now (positions .entry)))) ⌝ }
+{
+    let p = records::position::position_at(positions, at);
+    let symbol = p.symbol;
+    if search::holds(sheet, symbol) {
+        return Noted::Nothing;
+    }
+    Noted::Is(Discrepancy::PositionMismatch(symbol, 0, p.quantity))
+}
+
+// The recovered order at a place, where it is an open intent.
+fn intent(orders: &[u8], at: usize) -> Noted
+    ensures { λ r. ⌜ r ≡ intent (orderOf (drop at (now (orders .entry)))) ⌝ }
+{
+    if !records::search::intent_at(orders, at) {
+        return Noted::Nothing;
+    }
+    let o = records::order::order_at(orders, at);
+    let text = o.client;
+    let AsStr::Is(client) = text else {
+        return Noted::Nothing;
+    };
+    let symbol = o.symbol;
+    Noted::Is(Discrepancy::IncompleteIntent(symbol, client))
+}
+
+// A logged intent without a logged result.
+fn incomplete(p: Pair, x: Discrepancy) -> Noted
+    ensures { λ r. ⌜ r ≡ notedIf (unanswered p) x ⌝ }
+{
+    if !p.intent {
+        return Noted::Nothing;
+    }
+    if p.result {
+        return Noted::Nothing;
+    }
+    Noted::Is(x)
+}
+
+fn mark_at(marks: Marks, i: usize) -> Noted
+    ensures { λ r. ⌜ r ≡ markAt marks i ⌝ }
+{
+    match i {
+        0 => {
+            let p = marks.positions;
+            incomplete(p, Discrepancy::IncompletePositionsIntent)
+        }
+        1 => {
+            let p = marks.quotes;
+            incomplete(p, Discrepancy::IncompleteQuotesIntent)
+        }
+        2 => {
+            let p = marks.account;
+            incomplete(p, Discrepancy::IncompleteAccountSummaryIntent)
+        }
+        _ => {
+            let p = marks.cancel;
+            incomplete(p, Discrepancy::IncompleteCancelIntent)
+        }
+    }
+}
+
+// How many records a pass goes over, and what the one at index `i` adds.
+fn count(pass: Pass, orders: &[u8], positions: &[u8], sheet: &[u8]) -> usize
+    ensures { λ r. ⌜ r ≡ passCount pass (now (orders .entry)) (now (positions .entry)) (now (sheet .entry)) ⌝ }
+{
+    match pass {
+        Pass::Orphans => sheet::order_count(sheet) as usize,
+        Pass::MissingOrders => orders.len() / 64,
+        Pass::BrokerPositions => sheet::position_count(sheet) as usize,
+        Pass::RecoveredPositions => positions.len() / 32,
+        Pass::Intents => orders.len() / 64,
+        Pass::IncompleteMarks => 4,
+    }
+}
+
+fn noted_at(
+    pass: Pass,
+    i: usize,
+    marks: Marks,
+    orders: &[u8],
+    positions: &[u8],
+    sheet: &[u8],
+) -> Noted
+    requires { ⌜ i < passCount pass (now orders) (now positions) (now sheet) ⌝ }
+    ensures { λ r. ⌜ r ≡ passAt pass i marks (now (orders .entry)) (now (positions .entry)) (now (sheet .entry)) ⌝ }
+{
+    match pass {
+        Pass::Orphans => orphan(orders, sheet::order_at(sheet, i as u32)),
+        Pass::MissingOrders => missing(orders, 64 * i, sheet),
+        Pass::BrokerPositions => mismatch(positions, sheet::position_at(sheet, i as u32)),
+        Pass::RecoveredPositions => unlisted(positions, 32 * i, sheet),
+        Pass::Intents => intent(orders, 64 * i),
+        Pass::IncompleteMarks => mark_at(marks, i),
+    }
+}
+
+// One pass, behind what the buffer holds.
+pub fn run(
+    out: &mut [u8],
+    stored: Stored,
+    pass: Pass,
+    marks: Marks,
+    orders: &[u8],
+    positions: &[u8],
+    sheet: &[u8],
+) -> Stored
+    ensures { λ r. ⌜ Adds (length (now (out .entry))) (passOf pass marks (now (orders .entry)) (now (positions .entry)) (now (sheet .entry))) stored (now (out .entry)) r (now (out .exit)) ⌝ }
+{
+    let Stored::Is(start) = stored else {
+        return Stored::Full;
+    };
+    let m = count(pass, orders, positions, sheet);
+    let mut n = start;
+    let mut i = 0;
+    while i < m {
+        let put = discrepancy::note(
+            out,
+            n,
+            noted_at(pass, i, marks, orders, positions, sheet),
+        );
+        let Stored::Is(next) = put else {
+            return Stored::Full;
+        };
+        n = next;
+        i += 1;
+    }
+    Stored::Is(n)
+}

@@ -1,2 +1,3 @@
 pub mod Answer
 pub mod TypesEntries
+pub mod RecoveryAnswer

@@ -3,20 +3,20 @@
 use Prim.Native.Nat.{ℕ, _+_, _*_, _/_, _^_, _≤_, _<_}
 use mathlib.Core.Path.{_≡_, refl, sym, ap, _∙_}
 use mathlib.Core.List.{List, [], _∷_, _++_, append-assoc, append-nil}
-use mathlib.Core.Bool.{Bool, true, false}
+use mathlib.Core.Bool.{Bool}
 use native.Mathlib.Nat.{add-assoc}
 use native.Mathlib.Omega.{arith}
-use lib.Dec.{ltb, leb}
+use lib.Dec.{ltb}
 use lib.ListN.{length, replicate, length-append}
 use lib.Seq.{sets}
 use borrow.Author.Tests.{le-leb, lt-leb, lt-ltb}
 use Rattle.wire.specs.Le.{bytesOf}
-use Rattle.wire.specs.Table.{encoded, padded}
+use Rattle.wire.specs.Table.{encoded}
 use Rattle.wire.proofs.Written.{length-bytesOf}
 use Rattle.wire.proofs.Words.{bytes-add, sets-number}
 use Rattle.wire.proofs.Records.{padded-none, appended}
-use Rattle.compare.specs.Report.{before, critical, fieldBytes48, fieldsOf, discrepancyBytes}
-use Rattle.compare.specs.Compare.{doneIf, fittingReport, bytesIf}
+use Rattle.compare.specs.Report.{before, critical, fieldBytes48, discrepancyBytes}
+use Rattle.compare.specs.Compare.{fittingReport, bytesIf}
 use Rattle.compare.specs.Buffer.{Holds, Adds, Answers}
 use Rattle.compare.specs.declared.Comparison.{Comparison}
 use Rattle.compare.specs.declared.Comparison.the-variants.{Done, NoRoom}

@@ -1,10 +1,9 @@
 -- The passes over lent bytes, record by record: what is left from the i-th on.
 -- Assumes nothing.
-use Prim.Native.Nat.{ℕ, zero, suc, _+_, _*_, _/_, _≤_, _<_}
-use mathlib.Core.Path.{_≡_, refl, ap, _∙_}
+use Prim.Native.Nat.{ℕ, zero, suc, _+_, _/_, _≤_, _<_}
+use mathlib.Core.Path.{_≡_, refl, ap}
 use mathlib.Core.List.{List, [], _∷_}
 use native.Mathlib.Omega.{arith}
-use native.Mathlib.Numerals.{add-one}
 use lib.ListN.{length, drop, drop-of-length-le}
 use Rattle.records.specs.Record.{orderOf, ordersIn, positionOf, positionsIn}
 use Rattle.records.proofs.Walk.{rest, rest-all, rest-next, rest-none}
@@ -16,7 +15,7 @@ use Rattle.compare.specs.Buffer.{passCount, passAt, passOf, markAt}
 use Rattle.compare.specs.declared.discrepancy.Discrepancy.{Discrepancy}
 use Rattle.compare.specs.declared.discrepancy.Noted.{Noted}
 use Rattle.compare.specs.declared.passes.Pass.{Pass}
-use Rattle.compare.specs.declared.passes.Pass.the-variants.{Orphans, MissingOrders, BrokerPositions, RecoveredPositions, Intents, IncompleteMarks}
+use Rattle.compare.specs.declared.passes.Pass.the-variants.{Orphans, MissingOrders, Mismatches, Unlisted, Intents, Incomplete}
 
 -- a pass over a list whose front is known
 pass-on : {A : Type 0} (f : A → Noted) (xs ys : List A) (x : A) → xs ≡ x ∷ ys → pass f xs ≡ before (f x) (pass f ys)
@@ -39,32 +38,36 @@ module _ (m : Marks) (orders positions sheet : List ℕ) where
   abbrev pub passFrom : Pass → ℕ → List Discrepancy
   passFrom Orphans i = pass (orphan (ordersIn orders)) (drop i (sheetOrders sheet))
   passFrom MissingOrders i = pass (missing (sheetOrders sheet)) (rest orderOf 64 (length orders / 64) orders i)
-  passFrom BrokerPositions i = pass (mismatch (positionsIn positions)) (drop i (sheetPositions sheet))
-  passFrom RecoveredPositions i = pass (unlisted (sheetPositions sheet)) (rest positionOf 32 (length positions / 32) positions i)
+  passFrom Mismatches i = pass (mismatch (positionsIn positions)) (drop i (sheetPositions sheet))
+  passFrom Unlisted i = pass (unlisted (sheetPositions sheet)) (rest positionOf 32 (length positions / 32) positions i)
   passFrom Intents i = pass intent (rest orderOf 64 (length orders / 64) orders i)
-  passFrom IncompleteMarks i = pass (λ (x : Noted). x) (drop i (incomplete m))
+  passFrom Incomplete i = pass (λ (x : Noted). x) (drop i (incomplete m))
 
   pub pass-all : (p : Pass) → passOf p m orders positions sheet ≡ passFrom p 0
   pass-all Orphans = refl
   pass-all MissingOrders = ap (pass (missing (sheetOrders sheet))) (rest-all orderOf 64 (length orders / 64) orders)
-  pass-all BrokerPositions = refl
-  pass-all RecoveredPositions = ap (pass (unlisted (sheetPositions sheet))) (rest-all positionOf 32 (length positions / 32) positions)
+  pass-all Mismatches = refl
+  pass-all Unlisted = ap (pass (unlisted (sheetPositions sheet))) (rest-all positionOf 32 (length positions / 32) positions)
   pass-all Intents = ap (pass intent) (rest-all orderOf 64 (length orders / 64) orders)
-  pass-all IncompleteMarks = refl
+  pass-all Incomplete = refl
 
-  pub pass-next : (p : Pass) (i : ℕ) → i < passCount p orders positions sheet
+  pass-next : (p : Pass) (i : ℕ) → i < passCount p orders positions sheet
       → passFrom p i ≡ before (passAt p i m orders positions sheet) (passFrom p (i + 1))
   pass-next Orphans i h = pass-on _ _ _ _ (orders-step sheet i h)
   pass-next MissingOrders i h = pass-on _ _ _ _ (rest-next orderOf 64 (length orders / 64) orders i h)
-  pass-next BrokerPositions i h = pass-on _ _ _ _ (positions-step sheet i h)
-  pass-next RecoveredPositions i h = pass-on _ _ _ _ (rest-next positionOf 32 (length positions / 32) positions i h)
+  pass-next Mismatches i h = pass-on _ _ _ _ (positions-step sheet i h)
+  pass-next Unlisted i h = pass-on _ _ _ _ (rest-next positionOf 32 (length positions / 32) positions i h)
   pass-next Intents i h = pass-on _ _ _ _ (rest-next orderOf 64 (length orders / 64) orders i h)
-  pass-next IncompleteMarks i h = pass-on (λ (x : Noted). x) _ _ _ (marks-step m i h)
+  pass-next Incomplete i h = pass-on (λ (x : Noted). x) _ _ _ (marks-step m i h)
+
+  pub pass-noted : (p : Pass) (i : ℕ) → i < passCount p orders positions sheet → (x : Noted) → x ≡ passAt p i m orders positions sheet
+      → passFrom p i ≡ before x (passFrom p (i + 1))
+  pass-noted p i h x e = rw e (pass-next p i h)
 
   pub pass-end : (p : Pass) (i : ℕ) → passCount p orders positions sheet ≤ i → passFrom p i ≡ []
   pass-end Orphans i h = pass-over _ _ (orders-end sheet i h)
   pass-end MissingOrders i h = pass-over _ _ (rest-none orderOf 64 (length orders / 64) orders i h)
-  pass-end BrokerPositions i h = pass-over _ _ (positions-end sheet i h)
-  pass-end RecoveredPositions i h = pass-over _ _ (rest-none positionOf 32 (length positions / 32) positions i h)
+  pass-end Mismatches i h = pass-over _ _ (positions-end sheet i h)
+  pass-end Unlisted i h = pass-over _ _ (rest-none positionOf 32 (length positions / 32) positions i h)
   pass-end Intents i h = pass-over _ _ (rest-none orderOf 64 (length orders / 64) orders i h)
-  pass-end IncompleteMarks i h = pass-over (λ (x : Noted). x) _ (drop-of-length-le (incomplete m) {i = i} h)
+  pass-end Incomplete i h = pass-over (λ (x : Noted). x) _ (drop-of-length-le (incomplete m) {i = i} h)

@@ -17,7 +17,7 @@ use Rattle.compare.specs.declared.discrepancy.Noted.{Noted}
 use Rattle.compare.specs.declared.discrepancy.Stored.{Stored}
 use Rattle.compare.specs.declared.discrepancy.Stored.the-variants as S
 use Rattle.compare.specs.declared.passes.Pass.{Pass}
-use Rattle.compare.specs.declared.passes.Pass.the-variants.{Orphans, MissingOrders, BrokerPositions, RecoveredPositions, Intents, IncompleteMarks}
+use Rattle.compare.specs.declared.passes.Pass.the-variants.{Orphans, MissingOrders, Mismatches, Unlisted, Intents, Incomplete}
 
 -- a buffer of len bytes holds these discrepancies and zeros behind them, or they do not all fit
 abbrev pub Holds : Stored → List Discrepancy → ℕ → List ℕ → Type 0
@@ -37,10 +37,10 @@ Answers s len d r after =
 abbrev pub passCount : Pass → List ℕ → List ℕ → List ℕ → ℕ
 passCount Orphans orders positions sheet = orderCount sheet
 passCount MissingOrders orders positions sheet = length orders / 64
-passCount BrokerPositions orders positions sheet = positionCount sheet
-passCount RecoveredPositions orders positions sheet = length positions / 32
+passCount Mismatches orders positions sheet = positionCount sheet
+passCount Unlisted orders positions sheet = length positions / 32
 passCount Intents orders positions sheet = length orders / 64
-passCount IncompleteMarks orders positions sheet = 4
+passCount Incomplete orders positions sheet = 4
 
 abbrev pub markAt : Marks → ℕ → Noted
 markAt m zero = notedIf (unanswered (m .positions)) IncompletePositionsIntent
@@ -51,16 +51,16 @@ markAt m (suc (suc (suc i))) = notedIf (unanswered (m .cancel)) IncompleteCancel
 abbrev pub passAt : Pass → ℕ → Marks → List ℕ → List ℕ → List ℕ → Noted
 passAt Orphans i m orders positions sheet = orphan (ordersIn orders) (brokerOrderOf (drop (24 + 24 * i) sheet))
 passAt MissingOrders i m orders positions sheet = missing (sheetOrders sheet) (orderOf (drop (64 * i) orders))
-passAt BrokerPositions i m orders positions sheet =
+passAt Mismatches i m orders positions sheet =
     mismatch (positionsIn positions) (brokerPositionOf (drop (24 + 24 * orderCount sheet + 24 * i) sheet))
-passAt RecoveredPositions i m orders positions sheet = unlisted (sheetPositions sheet) (positionOf (drop (32 * i) positions))
+passAt Unlisted i m orders positions sheet = unlisted (sheetPositions sheet) (positionOf (drop (32 * i) positions))
 passAt Intents i m orders positions sheet = intent (orderOf (drop (64 * i) orders))
-passAt IncompleteMarks i m orders positions sheet = markAt m i
+passAt Incomplete i m orders positions sheet = markAt m i
 
 abbrev pub passOf : Pass → Marks → List ℕ → List ℕ → List ℕ → List Discrepancy
 passOf Orphans m orders positions sheet = pass (orphan (ordersIn orders)) (sheetOrders sheet)
 passOf MissingOrders m orders positions sheet = pass (missing (sheetOrders sheet)) (ordersIn orders)
-passOf BrokerPositions m orders positions sheet = pass (mismatch (positionsIn positions)) (sheetPositions sheet)
-passOf RecoveredPositions m orders positions sheet = pass (unlisted (sheetPositions sheet)) (positionsIn positions)
+passOf Mismatches m orders positions sheet = pass (mismatch (positionsIn positions)) (sheetPositions sheet)
+passOf Unlisted m orders positions sheet = pass (unlisted (sheetPositions sheet)) (positionsIn positions)
 passOf Intents m orders positions sheet = pass intent (ordersIn orders)
-passOf IncompleteMarks m orders positions sheet = pass (λ (x : Noted). x) (incomplete m)
+passOf Incomplete m orders positions sheet = pass (λ (x : Noted). x) (incomplete m)

@@ -2,18 +2,17 @@
 //
 // `specs/Report.antt` has the report over values, pass by pass, and its records of 48 bytes; `specs/Compare.antt` the entry's answer and bytes.
 pub mod discrepancy;
-pub mod passes;
+mod passes;
 mod search;
 
 ghost use mathlib.Core.Path.{_≡_};
 ghost use Prim.Native.Nat.{_*_};
 ghost use lib.ListN.{length, drop};
 ghost use Rattle.wire.specs.Le.{le};
-ghost use Rattle.compare.specs.Compare.{lentReport, comparison, reportOut};
-ghost use Rattle.compare.specs.Buffer.{Holds, Answers};
+ghost use Rattle.compare.specs.Compare.{comparison, reportOut};
+ghost use Rattle.compare.specs.Buffer.{Answers};
 use discrepancy::Stored;
 use marks::Marks;
-use passes::Pass;
 use wire::layout::Layout;
 
 // How many discrepancies the report has, and whether there is any.
@@ -30,20 +29,6 @@ pub enum Comparison {
     Broken,
     // Refusal 3: the buffer cannot take all discrepancies.
     NoRoom,
-}
-
-// The passes of document 01, in its order, each behind what the ones before it reported.
-fn report(out: &mut [u8], marks: Marks, orders: &[u8], positions: &[u8], sheet: &[u8]) -> Stored
-    ensures { λ r. ⌜ Holds r (lentReport marks (now (orders .entry)) (now (positions .entry)) (now (sheet .entry))) (length (now (out .entry))) (now (out .exit)) ⌝ }
-{
-    wire::clear(out);
-    let s = Stored::Is(0);
-    let s = passes::run(out, s, Pass::Orphans, marks, orders, positions, sheet);
-    let s = passes::run(out, s, Pass::MissingOrders, marks, orders, positions, sheet);
-    let s = passes::run(out, s, Pass::BrokerPositions, marks, orders, positions, sheet);
-    let s = passes::run(out, s, Pass::RecoveredPositions, marks, orders, positions, sheet);
-    let s = passes::run(out, s, Pass::Intents, marks, orders, positions, sheet);
-    passes::run(out, s, Pass::IncompleteMarks, marks, orders, positions, sheet)
 }
 
 // The report's answer. A buffer that cannot take it is all zero again.
@@ -79,7 +64,7 @@ pub fn compare_broker_state(
     );
     match wire::layout::both(sheet::check(sheet), lent) {
         Layout::Sound => {
-            let s = report(out, marks, orders, positions, sheet);
+            let s = passes::report(out, marks, orders, positions, sheet);
             answered(out, s)
         }
         Layout::Oversize => {

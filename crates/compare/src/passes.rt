@@ -5,7 +5,8 @@ ghost use lib.ListN.{length, drop};
 ghost use Rattle.records.specs.Record.{orderOf, ordersIn, positionOf, positionsIn};
 ghost use Rattle.sheet.specs.Sheet.{sheetOrders, sheetPositions};
 ghost use Rattle.compare.specs.Report.{orphan, missing, mismatch, unlisted, intent, notedIf, unanswered};
-ghost use Rattle.compare.specs.Buffer.{Adds, passCount, passAt, passOf, markAt};
+ghost use Rattle.compare.specs.Compare.{lentReport};
+ghost use Rattle.compare.specs.Buffer.{Holds, Adds, passCount, passAt, passOf, markAt};
 use crate::discrepancy;
 use crate::discrepancy::Discrepancy;
 use crate::discrepancy::Noted;
@@ -18,13 +19,15 @@ use marks::Pair;
 use sheet::BrokerOrderStatus;
 use sheet::BrokerPosition;
 
+// The passes: over the broker's orders, the recovered orders, the broker's positions, the recovered positions, the recovered orders again,
+// and the four marks.
 pub enum Pass {
     Orphans,
     MissingOrders,
-    BrokerPositions,
-    RecoveredPositions,
+    Mismatches,
+    Unlisted,
     Intents,
-    IncompleteMarks,
+    Incomplete,
 }
 
 // A broker's order that no recovered one names.
@@ -139,10 +142,10 @@ fn count(pass: Pass, orders: &[u8], positions: &[u8], sheet: &[u8]) -> usize
     match pass {
         Pass::Orphans => sheet::order_count(sheet) as usize,
         Pass::MissingOrders => orders.len() / 64,
-        Pass::BrokerPositions => sheet::position_count(sheet) as usize,
-        Pass::RecoveredPositions => positions.len() / 32,
+        Pass::Mismatches => sheet::position_count(sheet) as usize,
+        Pass::Unlisted => positions.len() / 32,
         Pass::Intents => orders.len() / 64,
-        Pass::IncompleteMarks => 4,
+        Pass::Incomplete => 4,
     }
 }
 
@@ -160,15 +163,15 @@ fn noted_at(
     match pass {
         Pass::Orphans => orphan(orders, sheet::order_at(sheet, i as u32)),
         Pass::MissingOrders => missing(orders, 64 * i, sheet),
-        Pass::BrokerPositions => mismatch(positions, sheet::position_at(sheet, i as u32)),
-        Pass::RecoveredPositions => unlisted(positions, 32 * i, sheet),
+        Pass::Mismatches => mismatch(positions, sheet::position_at(sheet, i as u32)),
+        Pass::Unlisted => unlisted(positions, 32 * i, sheet),
         Pass::Intents => intent(orders, 64 * i),
-        Pass::IncompleteMarks => mark_at(marks, i),
+        Pass::Incomplete => mark_at(marks, i),
     }
 }
 
 // One pass, behind what the buffer holds.
-pub fn run(
+fn run(
     out: &mut [u8],
     stored: Stored,
     pass: Pass,
@@ -186,11 +189,7 @@ pub fn run(
     let mut n = start;
     let mut i = 0;
     while i < m {
-        let put = discrepancy::note(
-            out,
-            n,
-            noted_at(pass, i, marks, orders, positions, sheet),
-        );
+        let put = discrepancy::note(out, n, noted_at(pass, i, marks, orders, positions, sheet));
         let Stored::Is(next) = put else {
             return Stored::Full;
         };
@@ -198,4 +197,18 @@ pub fn run(
         i += 1;
     }
     Stored::Is(n)
+}
+
+// The passes of document 01, in its order, each behind what the ones before it reported.
+pub fn report(out: &mut [u8], marks: Marks, orders: &[u8], positions: &[u8], sheet: &[u8]) -> Stored
+    ensures { λ r. ⌜ Holds r (lentReport marks (now (orders .entry)) (now (positions .entry)) (now (sheet .entry))) (length (now (out .entry))) (now (out .exit)) ⌝ }
+{
+    wire::clear(out);
+    let s = Stored::Is(0);
+    let s = run(out, s, Pass::Orphans, marks, orders, positions, sheet);
+    let s = run(out, s, Pass::MissingOrders, marks, orders, positions, sheet);
+    let s = run(out, s, Pass::Mismatches, marks, orders, positions, sheet);
+    let s = run(out, s, Pass::Unlisted, marks, orders, positions, sheet);
+    let s = run(out, s, Pass::Intents, marks, orders, positions, sheet);
+    run(out, s, Pass::Incomplete, marks, orders, positions, sheet)
 }

@@ -1,13 +1,13 @@
 -- `compare_broker_state`: by the layout's case.
 use borrow.Author.Needs.{needs}
-use Rattle.compare.proofs.compare_broker_state.Statement.{statement}
-use Rattle.compare.proofs.compare_broker_state.Tie as tie
-use mathlib.Core.Path.{_≡_, refl, _∙_}
+use mathlib.Core.Path.{_≡_, refl}
 use denote.Ref.{now}
 use lib.ListN.{length}
 use Rattle.wire.specs.declared.layout.Layout.the-variants as L
 use Rattle.compare.specs.Compare.{lentReport, lentLayout, comparison, reportOut}
 use Rattle.compare.proofs.Adding.{answers-at}
+use Rattle.compare.proofs.compare_broker_state.Statement.{statement}
+use Rattle.compare.proofs.compare_broker_state.Tie as tie
 
 check-orders-requires : tie.Need-check-orders-requires
 check-orders-requires c κs = search needs
@@ -53,7 +53,7 @@ unfolding comparison reportOut
 returns c =
     let a = c .before .before .before .before .before .before .before .before .before .before .before .before .before .before .before .before .before .before .before .args in
     let e : lentLayout (now (a .orders)) (now (a .positions)) (now (a .sheet)) ≡ L.Sound =
-        rw (← c .before .before .before .before .before .before .before .before .before .before .before .check .ensures, ← c .before .before .before .before .before .before .before .before .before .before .before .before .before .before .check-orders .ensures, ← c .before .before .before .before .before .before .before .before .before .before .before .before .before .check-positions .ensures, ← c .before .before .before .before .before .before .before .before .before .before .before .before .both .ensures, ← c .before .before .before .before .before .before .before .before .before .before .both2 .ensures) (c .before .before .before .before .before .before .before .before .enum-told .given .1) in
+    rw (← c .before .before .before .before .before .before .before .before .before .before .before .check .ensures, ← c .before .before .before .before .before .before .before .before .before .before .before .before .before .before .check-orders .ensures, ← c .before .before .before .before .before .before .before .before .before .before .before .before .before .check-positions .ensures, ← c .before .before .before .before .before .before .before .before .before .before .before .before .both .ensures, ← c .before .before .before .before .before .before .before .before .before .before .both2 .ensures) (c .before .before .before .before .before .before .before .before .enum-told .given .1) in
     let r = c .before .before .before .before .before .before .report in
     rw e
     (answers-at (length (now (a .out))) (lentReport (a .marks) (now (a .orders)) (now (a .positions)) (now (a .sheet))) (r .result) (r .last .0) (c .before .before .answered .last .0) (c .before .before .answered .result) (r .kept .0) (c .before .before .answered .ensures) (r .ensures))
@@ -66,7 +66,7 @@ unfolding comparison reportOut
 returns-2 c =
     let a = c .before .before .before .before .before .before .before .before .before .before .before .before .before .before .before .args in
     let e : lentLayout (now (a .orders)) (now (a .positions)) (now (a .sheet)) ≡ L.Oversize =
-        rw (← c .before .before .before .before .before .before .before .check .ensures, ← c .before .before .before .before .before .before .before .before .before .before .check-orders .ensures, ← c .before .before .before .before .before .before .before .before .before .check-positions .ensures, ← c .before .before .before .before .before .before .before .before .both .ensures, ← c .before .before .before .before .before .before .both2 .ensures) (c .before .before .before .before .enum-told2 .given .1) in
+    rw (← c .before .before .before .before .before .before .before .check .ensures, ← c .before .before .before .before .before .before .before .before .before .before .check-orders .ensures, ← c .before .before .before .before .before .before .before .before .before .check-positions .ensures, ← c .before .before .before .before .before .before .before .before .both .ensures, ← c .before .before .before .before .before .before .both2 .ensures) (c .before .before .before .before .enum-told2 .given .1) in
     rw e (refl, c .before .before .clear .ensures)
 
 same-length-3 : tie.Need-same-length-3
@@ -77,7 +77,7 @@ unfolding comparison reportOut
 returns-3 c =
     let a = c .before .before .before .before .before .before .before .before .before .before .before .before .before .before .before .args in
     let e : lentLayout (now (a .orders)) (now (a .positions)) (now (a .sheet)) ≡ L.Broken =
-        rw (← c .before .before .before .before .before .before .before .check .ensures, ← c .before .before .before .before .before .before .before .before .before .before .check-orders .ensures, ← c .before .before .before .before .before .before .before .before .before .check-positions .ensures, ← c .before .before .before .before .before .before .before .before .both .ensures, ← c .before .before .before .before .before .before .both2 .ensures) (c .before .before .before .before .enum-told3 .given .1) in
+    rw (← c .before .before .before .before .before .before .before .check .ensures, ← c .before .before .before .before .before .before .before .before .before .before .check-orders .ensures, ← c .before .before .before .before .before .before .before .before .before .check-positions .ensures, ← c .before .before .before .before .before .before .before .before .both .ensures, ← c .before .before .before .before .before .before .both2 .ensures) (c .before .before .before .before .enum-told3 .given .1) in
     rw e (refl, c .before .before .clear2 .ensures)
 
 pub compare-broker-state-spec : {M : Type 1} → statement M

@@ -1,13 +1,12 @@
 -- `kind_at`: past the end there is nothing.
 use borrow.Author.Needs.{needs}
-use Rattle.compare.proofs.kind_at.Statement.{statement}
-use Rattle.compare.proofs.kind_at.Tie as tie
 use Prim.Native.Nat.{_*_}
-use mathlib.Core.Path.{sym, _∙_}
 use native.Mathlib.Omega.{arith}
 use denote.Ref.{now}
-use lib.ListN.{length, drop-of-length-le}
+use lib.ListN.{drop-of-length-le}
 use Rattle.wire.specs.Le.{le}
+use Rattle.compare.proofs.kind_at.Statement.{statement}
+use Rattle.compare.proofs.kind_at.Tie as tie
 
 returns : tie.Need-returns
 unfolding le

@@ -1,11 +1,10 @@
 -- `discrepancy::note`: by what is noted, and by the room.
 use borrow.Author.Needs.{needs}
-use Rattle.compare.proofs.discrepancy.note.Statement.{statement}
-use Rattle.compare.proofs.discrepancy.note.Tie as tie
-use mathlib.Core.Path.{sym, _∙_}
 use denote.Ref.{now}
 use lib.ListN.{length}
 use Rattle.compare.proofs.Adding.{adds-none, adds-one, adds-past}
+use Rattle.compare.proofs.discrepancy.note.Statement.{statement}
+use Rattle.compare.proofs.discrepancy.note.Tie as tie
 
 enum-known-x : tie.Need-enum-known-x
 enum-known-x c = search needs

@@ -1,12 +1,12 @@
 -- `discrepancy::put_discrepancy`: six numbers, one behind the other; nothing past the end.
 use borrow.Author.Needs.{needs}
-use Rattle.compare.proofs.discrepancy.put_discrepancy.Statement.{statement}
-use Rattle.compare.proofs.discrepancy.put_discrepancy.Tie as tie
 use mathlib.Core.Path.{sym, _∙_}
 use denote.Ref.{now}
 use Rattle.wire.proofs.Written.{sets-past}
 use Rattle.compare.specs.Report.{discrepancyBytes}
 use Rattle.compare.proofs.Adding.{six-words}
+use Rattle.compare.proofs.discrepancy.put_discrepancy.Statement.{statement}
+use Rattle.compare.proofs.discrepancy.put_discrepancy.Tie as tie
 
 returns : tie.Need-returns
 returns c =

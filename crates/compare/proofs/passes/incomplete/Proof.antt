@@ -1,7 +1,7 @@
 -- `passes::incomplete`: by the two flags.
+use borrow.Author.Tests.{not-true, not-false}
 use Rattle.compare.proofs.passes.incomplete.Statement.{statement}
 use Rattle.compare.proofs.passes.incomplete.Tie as tie
-use borrow.Author.Tests.{not-true, not-false}
 
 returns : tie.Need-returns
 returns c = rw (not-true (c .before .before .args .p .intent) (c .if1 .taken))

@@ -1,7 +1,5 @@
 -- `passes::intent`: by the flags and the client.
 use borrow.Author.Needs.{needs}
-use Rattle.compare.proofs.passes.intent.Statement.{statement}
-use Rattle.compare.proofs.passes.intent.Tie as tie
 use mathlib.Core.Path.{sym, ap, _∙_}
 use denote.Ref.{now}
 use lib.ListN.{drop}
@@ -9,6 +7,8 @@ use borrow.Author.Tests.{not-true, not-false}
 use Rattle.records.specs.Record.{orderOf}
 use Rattle.records.specs.declared.order.Order.{Order}
 use Rattle.compare.proofs.Lookups.{no-intent, an-intent}
+use Rattle.compare.proofs.passes.intent.Statement.{statement}
+use Rattle.compare.proofs.passes.intent.Tie as tie
 
 intent-at-requires : tie.Need-intent-at-requires
 intent-at-requires c κs = search needs

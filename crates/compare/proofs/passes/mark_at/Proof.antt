@@ -1,10 +1,10 @@
 -- `passes::mark_at`: by the index.
 use borrow.Author.Needs.{needs}
-use Rattle.compare.proofs.passes.mark_at.Statement.{statement}
-use Rattle.compare.proofs.passes.mark_at.Tie as tie
 use mathlib.Core.Path.{sym, _∙_}
 use native.Mathlib.Omega.{arith}
 use Rattle.compare.proofs.Lookups.{mark-last}
+use Rattle.compare.proofs.passes.mark_at.Statement.{statement}
+use Rattle.compare.proofs.passes.mark_at.Tie as tie
 
 incomplete-requires : tie.Need-incomplete-requires
 incomplete-requires c κs = search needs

@@ -1,9 +1,6 @@
 -- `passes::missing`: by the flags, then by the search.
 use borrow.Author.Needs.{needs}
-use Rattle.compare.proofs.passes.missing.Statement.{statement}
-use Rattle.compare.proofs.passes.missing.Tie as tie
 use mathlib.Core.Path.{sym, ap, _∙_}
-use lib.IntN.{ℤ}
 use borrow.Author.Tests.{not-true, not-false}
 use Prim.Native.Nat.{ℕ}
 use denote.Ref.{now}
@@ -16,6 +13,8 @@ use Rattle.records.specs.Search.{anyWhere}
 use Rattle.records.specs.declared.order.Order.{Order}
 use Rattle.sheet.specs.Sheet.{sheetOrders}
 use Rattle.sheet.specs.declared.BrokerOrderStatus.{BrokerOrderStatus}
+use Rattle.compare.proofs.passes.missing.Statement.{statement}
+use Rattle.compare.proofs.passes.missing.Tie as tie
 
 unfilled-at-requires : tie.Need-unfilled-at-requires
 unfilled-at-requires c κs = search needs

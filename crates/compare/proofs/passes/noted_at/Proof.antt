@@ -1,17 +1,15 @@
 -- `passes::noted_at`: by the pass.
 use borrow.Author.Needs.{needs}
-use Rattle.compare.proofs.passes.noted_at.Statement.{statement}
-use Rattle.compare.proofs.passes.noted_at.Tie as tie
-use Prim.Native.Nat.{_<_}
 use mathlib.Core.Path.{ap, _∙_}
 use native.Mathlib.Omega.{arith}
 use denote.Ref.{now}
 use lib.ListN.{drop}
 use Rattle.wire.proofs.Written.{le-lt}
 use Rattle.symbol.proofs.Text.{bytes-of, bytes-drop}
-use Rattle.compare.specs.Buffer.{passCount}
 use Rattle.records.specs.Record.{ordersIn, positionsIn}
 use Rattle.compare.specs.Report.{orphan, mismatch}
+use Rattle.compare.proofs.passes.noted_at.Statement.{statement}
+use Rattle.compare.proofs.passes.noted_at.Tie as tie
 
 enum-told : tie.Need-enum-told
 enum-told c = search needs

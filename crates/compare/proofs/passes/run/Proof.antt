@@ -1,19 +1,17 @@
 -- `passes::run`: what the records from the i-th on add to what is written is the whole pass.
-use Rattle.compare.proofs.passes.run.Statement.{statement}
-use Rattle.compare.proofs.passes.run.Tie as tie
 use borrow.Author.Needs.{needs}
 use Prim.Native.Nat.{ℕ, _+_, _-_, _≤_, _<_}
-use mathlib.Core.Path.{_≡_, refl, sym, ap, subst, _∙_}
+use mathlib.Core.Path.{_≡_, refl, _∙_}
 use mathlib.Core.List.{List}
 use denote.Ref.{now}
 use lib.ListN.{length}
-use Rattle.compare.specs.Buffer.{Adds, passAt, passOf}
+use Rattle.compare.specs.Buffer.{Adds, passCount, passOf}
 use Rattle.compare.specs.declared.discrepancy.Stored.{Stored}
 use Rattle.compare.specs.declared.discrepancy.Stored.the-variants as S
 use Rattle.compare.proofs.Adding.{adds-none, full-adds, step-on, step-full}
-use Rattle.compare.proofs.Walked.{passFrom, pass-all, pass-next, pass-end}
-use Rattle.compare.specs.Report.{before}
-use Rattle.compare.specs.declared.discrepancy.Noted.{Noted}
+use Rattle.compare.proofs.Walked.{passFrom, pass-all, pass-noted, pass-end}
+use Rattle.compare.proofs.passes.run.Statement.{statement}
+use Rattle.compare.proofs.passes.run.Tie as tie
 
 abbrev Inv-loop : tie.InvT-loop
 Inv-loop out₀ pass marks orders positions sheet start m n₀ i₀ out n i =
@@ -64,9 +62,8 @@ returns-2 c =
     let l = c .before .before .before .before .before .before .before .before .loop in
     let x = c .before .before .before .before .before .noted-at in
     let from = passFrom (a .marks) (now (a .orders)) (now (a .positions)) (now (a .sheet)) (a .pass) in
-    let h = subst (λ (k : ℕ). l .i < k) (c .before .before .before .before .before .before .before .before .before .count .ensures) (c .before .before .before .before .before .before .before .loop-test .taken) in
-    let z : from (l .i) ≡ before (x .result) (from (l .i + 1)) =
-        pass-next (a .marks) (now (a .orders)) (now (a .positions)) (now (a .sheet)) (a .pass) (l .i) h ∙ ap (λ (k : Noted). before k (from (l .i + 1))) (sym (x .ensures)) in
+    let h : l .i < passCount (a .pass) (now (a .orders)) (now (a .positions)) (now (a .sheet)) = rw (← c .before .before .before .before .before .before .before .before .before .count .ensures) (c .before .before .before .before .before .before .before .loop-test .taken) in
+    let z = pass-noted (a .marks) (now (a .orders)) (now (a .positions)) (now (a .sheet)) (a .pass) (l .i) h (x .result) (x .ensures) in
     let r = c .before .before .before .before .note in
     rw (c .before .before .before .before .before .before .before .before .before .before .before .stored .given .1)
     (l .inv .1 S.Full (r .last .0)
@@ -84,12 +81,13 @@ loop-again c =
     let l = c .before .before .before .before .before .before .before .before .before .loop in
     let x = c .before .before .before .before .before .before .noted-at in
     let from = passFrom (a .marks) (now (a .orders)) (now (a .positions)) (now (a .sheet)) (a .pass) in
-    let h = subst (λ (k : ℕ). l .i < k) (c .before .before .before .before .before .before .before .before .before .before .count .ensures) (c .before .before .before .before .before .before .before .before .loop-test .taken) in
-    let z : from (l .i) ≡ before (x .result) (from (l .i + 1)) =
-        pass-next (a .marks) (now (a .orders)) (now (a .positions)) (now (a .sheet)) (a .pass) (l .i) h ∙ ap (λ (k : Noted). before k (from (l .i + 1))) (sym (x .ensures)) in
-    let r = c .before .before .before .before .before .note in
-    (r .kept .0 ∙ l .inv .0, λ t e p. l .inv .1 t e
-    (step-on (length (now (a .out))) (x .result) (from (l .i + 1)) (from (l .i)) z (l .n) (l .out) (l .inv .0) (r .result) (r .last .0) (r .ensures) _ (c .before .put .given .1) t e p))
+    let h : l .i < passCount (a .pass) (now (a .orders)) (now (a .positions)) (now (a .sheet)) = rw (← c .before .before .before .before .before .before .before .before .before .before .count .ensures) (c .before .before .before .before .before .before .before .before .loop-test .taken) in
+    let z = pass-noted (a .marks) (now (a .orders)) (now (a .positions)) (now (a .sheet)) (a .pass) (l .i) h (x .result) (x .ensures) in
+    let r = c .before .before .before .before .before .note in (
+      r .kept .0 ∙ l .inv .0,
+      λ t e p. l .inv .1 t e
+          (step-on (length (now (a .out))) (x .result) (from (l .i + 1)) (from (l .i)) z (l .n) (l .out) (l .inv .0) (r .result) (r .last .0) (r .ensures) _ (c .before .put .given .1) t e p),
+    )
 
 same-length-2 : tie.Need-same-length-2 Inv-loop μ-loop
 same-length-2 c = c .before .loop .inv .0
@@ -98,7 +96,7 @@ returns-3 : tie.Need-returns-3 Inv-loop μ-loop
 returns-3 c =
     let a = c .before .before .before .before .before .before .before .before .before .before .args in
     let l = c .before .loop in
-    let h = subst (λ (k : ℕ). k ≤ l .i) (c .before .before .count .ensures) (c .loop-test .left) in
+    let h : passCount (a .pass) (now (a .orders)) (now (a .positions)) (now (a .sheet)) ≤ l .i = rw (← c .before .before .count .ensures) (c .loop-test .left) in
     let z = pass-end (a .marks) (now (a .orders)) (now (a .positions)) (now (a .sheet)) (a .pass) (l .i) h in
     rw (c .before .before .before .before .stored .given .1) (l .inv .1 (S.Is (l .n)) (l .out) (rw z (adds-none (length (now (a .out))) (l .n) (l .out))))
 

@@ -1,11 +1,10 @@
 -- `passes::unlisted`: by the search.
 use borrow.Author.Needs.{needs}
-use Rattle.compare.proofs.passes.unlisted.Statement.{statement}
-use Rattle.compare.proofs.passes.unlisted.Tie as tie
-use mathlib.Core.Path.{sym, _∙_}
 use mir.Syntax.{w64}
 use mir.Val.{SFits}
 use mir.ValLaws.{toZ-ofZ}
+use Rattle.compare.proofs.passes.unlisted.Statement.{statement}
+use Rattle.compare.proofs.passes.unlisted.Tie as tie
 
 position-at-requires : tie.Need-position-at-requires
 position-at-requires c κs = search needs

@@ -1,6 +1,4 @@
 -- `search::expected_of`: no position before i has the symbol.
-use Rattle.compare.proofs.search.expected_of.Statement.{statement}
-use Rattle.compare.proofs.search.expected_of.Tie as tie
 use borrow.Author.Needs.{needs}
 use Prim.Native.Nat.{ℕ, _/_, _-_}
 use mathlib.Core.Path.{_≡_, sym, ap, _∙_}
@@ -19,6 +17,8 @@ use Rattle.records.proofs.Walk.{rest}
 use Rattle.compare.specs.Report.{expectedOf}
 use Rattle.compare.specs.declared.search.Expected.the-variants as E
 use Rattle.compare.proofs.Lookups.{expected-all, expected-here, expected-on, expected-end}
+use Rattle.compare.proofs.search.expected_of.Statement.{statement}
+use Rattle.compare.proofs.search.expected_of.Tie as tie
 
 abbrev Inv-loop : tie.InvT-loop
 Inv-loop positions y n i₀ i = expectedOf y (records positionOf 32 n positions) ≡ expectedOf y (rest positionOf 32 n positions i)

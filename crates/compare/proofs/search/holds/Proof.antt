@@ -1,13 +1,9 @@
 -- `search::holds`: no position before i has the symbol.
-use Rattle.compare.proofs.search.holds.Statement.{statement}
-use Rattle.compare.proofs.search.holds.Tie as tie
 use borrow.Author.Needs.{needs}
-use Prim.Native.Nat.{ℕ, _+_, _*_, _-_}
+use Prim.Native.Nat.{_-_}
 use mathlib.Core.Path.{_≡_, sym, ap, _∙_}
 use mathlib.Core.Bool.{Bool}
-use mathlib.Core.List.{List}
 use denote.Ref.{now}
-use lib.ListN.{drop}
 use Rattle.wire.specs.Table.{records}
 use Rattle.symbol.specs.Symbol.{sameSymbol, fieldSymbol}
 use Rattle.symbol.specs.declared.Symbol.{Symbol}
@@ -15,6 +11,8 @@ use Rattle.records.specs.Search.{anyWhere}
 use Rattle.records.proofs.Walk.{rest, any-all, any-here, any-on, any-end}
 use Rattle.sheet.specs.Sheet.{brokerPositionOf, sheetPositions}
 use Rattle.sheet.specs.declared.BrokerPosition.{BrokerPosition}
+use Rattle.compare.proofs.search.holds.Statement.{statement}
+use Rattle.compare.proofs.search.holds.Tie as tie
 
 abbrev ofSymbol : Symbol → BrokerPosition → Bool
 ofSymbol y b = sameSymbol (b .symbol) y

@@ -1,9 +1,7 @@
 -- `search::lists`: no order before i has the number.
-use Rattle.compare.proofs.search.lists.Statement.{statement}
-use Rattle.compare.proofs.search.lists.Tie as tie
 use borrow.Author.Needs.{needs}
 use Prim.Native.Nat.{ℕ, _-_}
-use mathlib.Core.Path.{_≡_, sym, ap, _∙_}
+use mathlib.Core.Path.{_≡_, sym, _∙_}
 use mathlib.Core.Bool.{Bool}
 use denote.Ref.{now}
 use lib.Dec.{eqb}
@@ -13,6 +11,8 @@ use Rattle.records.specs.Search.{anyWhere}
 use Rattle.records.proofs.Walk.{rest, any-all, any-here, any-on, any-end}
 use Rattle.sheet.specs.Sheet.{brokerOrderOf, sheetOrders}
 use Rattle.sheet.specs.declared.BrokerOrderStatus.{BrokerOrderStatus}
+use Rattle.compare.proofs.search.lists.Statement.{statement}
+use Rattle.compare.proofs.search.lists.Tie as tie
 
 abbrev numbered : ℕ → BrokerOrderStatus → Bool
 numbered id b = eqb id (b .id .0)

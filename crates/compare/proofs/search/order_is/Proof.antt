@@ -1,7 +1,5 @@
 -- `search::order_is`: by the calls.
 use borrow.Author.Needs.{needs}
-use Rattle.compare.proofs.search.order_is.Statement.{statement}
-use Rattle.compare.proofs.search.order_is.Tie as tie
 use mathlib.Core.Path.{ap, _∙_}
 use mathlib.Core.List.{List}
 use Prim.Native.Nat.{ℕ}
@@ -14,6 +12,8 @@ use mir.ValLaws.{toZ-ofZ}
 use Rattle.wire.specs.Le.{le}
 use Rattle.types.specs.Order.{signExtended}
 use Rattle.records.specs.Record.{orderOf}
+use Rattle.compare.proofs.search.order_is.Statement.{statement}
+use Rattle.compare.proofs.search.order_is.Tie as tie
 
 from-requires : tie.Need-from-requires
 from-requires c κs = search needs

@@ -1,8 +1,6 @@
--- `report`: each pass behind those before it.
+-- `passes::report`: each pass behind those before it.
 use borrow.Author.Needs.{needs}
-use Rattle.compare.proofs.report.Statement.{statement}
-use Rattle.compare.proofs.report.Tie as tie
-use mathlib.Core.Path.{_≡_, _∙_}
+use mathlib.Core.Path.{_∙_}
 use mathlib.Core.List.{List, [], _++_}
 use denote.Ref.{now}
 use lib.ListN.{length}
@@ -11,8 +9,10 @@ use Rattle.compare.specs.Buffer.{Holds, passOf}
 use Rattle.compare.specs.declared.discrepancy.Discrepancy.{Discrepancy}
 use Rattle.compare.specs.declared.discrepancy.Stored.the-variants as S
 use Rattle.compare.specs.declared.passes.Pass.{Pass}
-use Rattle.compare.specs.declared.passes.Pass.the-variants.{Orphans, MissingOrders, BrokerPositions, RecoveredPositions, Intents, IncompleteMarks}
+use Rattle.compare.specs.declared.passes.Pass.the-variants.{Orphans, MissingOrders, Mismatches, Unlisted, Intents, Incomplete}
 use Rattle.compare.proofs.Adding.{holds-none, holds-more}
+use Rattle.compare.proofs.passes.report.Statement.{statement}
+use Rattle.compare.proofs.passes.report.Tie as tie
 
 clear-requires : tie.Need-clear-requires
 clear-requires c κs = search needs
@@ -54,16 +54,16 @@ returns c =
     let h2 = holds-more len (of Orphans) (of MissingOrders) (r1 .result) (r2 .result) (r1 .last .0) (r2 .last .0) k2 (r2 .ensures) h1 in
     let r3 = c .before .before .before .before .before .before .before .before .before .before .before .before .before .before .run3 in
     let k3 = r2 .kept .0 ∙ k2 in
-    let h3 = holds-more len (of Orphans ++ of MissingOrders) (of BrokerPositions) (r2 .result) (r3 .result) (r2 .last .0) (r3 .last .0) k3 (r3 .ensures) h2 in
+    let h3 = holds-more len (of Orphans ++ of MissingOrders) (of Mismatches) (r2 .result) (r3 .result) (r2 .last .0) (r3 .last .0) k3 (r3 .ensures) h2 in
     let r4 = c .before .before .before .before .before .before .before .before .before .before .run4 in
     let k4 = r3 .kept .0 ∙ k3 in
-    let h4 = holds-more len (of Orphans ++ of MissingOrders ++ of BrokerPositions) (of RecoveredPositions) (r3 .result) (r4 .result) (r3 .last .0) (r4 .last .0) k4 (r4 .ensures) h3 in
+    let h4 = holds-more len (of Orphans ++ of MissingOrders ++ of Mismatches) (of Unlisted) (r3 .result) (r4 .result) (r3 .last .0) (r4 .last .0) k4 (r4 .ensures) h3 in
     let r5 = c .before .before .before .before .before .before .run5 in
     let k5 = r4 .kept .0 ∙ k4 in
-    let h5 = holds-more len (of Orphans ++ of MissingOrders ++ of BrokerPositions ++ of RecoveredPositions) (of Intents) (r4 .result) (r5 .result) (r4 .last .0) (r5 .last .0) k5 (r5 .ensures) h4 in
+    let h5 = holds-more len (of Orphans ++ of MissingOrders ++ of Mismatches ++ of Unlisted) (of Intents) (r4 .result) (r5 .result) (r4 .last .0) (r5 .last .0) k5 (r5 .ensures) h4 in
     let r6 = c .before .before .run6 in
     let k6 = r5 .kept .0 ∙ k5 in
-    holds-more len (of Orphans ++ of MissingOrders ++ of BrokerPositions ++ of RecoveredPositions ++ of Intents) (of IncompleteMarks) (r5 .result) (r6 .result) (r5 .last .0) (r6 .last .0) k6 (r6 .ensures) h5
+    holds-more len (of Orphans ++ of MissingOrders ++ of Mismatches ++ of Unlisted ++ of Intents) (of Incomplete) (r5 .result) (r6 .result) (r5 .last .0) (r6 .last .0) k6 (r6 .ensures) h5
 
 pub report-spec : {M : Type 1} → statement M
 report-spec =

@@ -2,4 +2,5 @@
 // value in a lent slice. Nothing here has a `requires`. A slice is a pointer and a length.
 mod book_entries;
 mod float_entries;
+mod recovery_entries;
 mod types_entries;

@@ -1,3 +1,3 @@
 pub mod Answer
-pub mod TypesEntries
 pub mod RecoveryAnswer
+pub mod TypesEntries

@@ -3,4 +3,5 @@
 mod book_entries;
 mod float_entries;
 mod recovery_entries;
+mod state_entries;
 mod types_entries;

@@ -70,6 +70,10 @@ head-size m = simp (length-append, length-bytesOf)
 flags-size : (m : Marks) → length (flagsBytes m) ≡ 16
 flags-size m = simp (length-append, length-bytesOf)
 
+pub marks-size : (m : Marks) → length (marksBytes m) ≡ 176
+unfolding marksBytes
+marks-size m = simp (length-append, length-bytesOf, number-size)
+
 pub marks-written : (d : List ℕ) (m : Marks) → sets (sets (sets d 0 (headBytes m)) 32 (flagsBytes m)) 48 (pairsBytes m) ≡ sets d 0 (marksBytes m)
 unfolding marksBytes
 marks-written d m =

@@ -4,11 +4,11 @@ use std::collections::BTreeMap;
 use std::panic::{catch_unwind, AssertUnwindSafe};
 
 use oracle::doc01::book::{Cell, WINDOW as WINDOW_CELL};
-use oracle::doc01::Book;
-use oracle::generator::{self, Case, DriftCase, LogCase, RecordsCase, Rng};
+use oracle::doc01::{Book, Marks};
+use oracle::generator::{self, Case, LogCase, RecordsCase, Rng};
 use oracle::judge;
 
-use crate::entries::{Due, Entry, ACTION, CHECK_BOOK, CHECK_SHEET, COMPARE, DRIFT, EQUAL, HELD, MAX, RECOVER, REPLY, VERDICT, WINDOW};
+use crate::entries::{Due, Entry, ACTION, CHECK_BOOK, CHECK_SHEET, COMPARE, EQUAL, MAX, RECOVER, STEP, UNJUDGED, VERDICT, WINDOW};
 use crate::question::{Fault, Question, Tally, FAULTS};
 use crate::smallest::{print, smallest};
 
@@ -44,12 +44,8 @@ impl Counts {
             ("desk_recovery_action", 0) => format!("0, {}", ["Restart", "Resume", "ManualReview"][first(due) as usize]),
             ("desk_states_equal", 0) => format!("0, {}", if first(due) > 0 { "equal" } else { "unequal" }),
             ("desk_compare_broker_state", 0) => format!("0, {}", if first(due) > 0 { "discrepancies" } else { "none" }),
-            ("desk_reply", 0) => {
-                let text = String::from_utf8_lossy(&due.outputs[0]).into_owned();
-                let line = text.lines().next().unwrap_or("").to_string();
-                if line.starts_with("verdict 0") { "accepted".into() } else { line.split(' ').take(2).collect::<Vec<_>>().join(" ") }
-            }
-            ("desk_reconcile", 0) => "0".into(),
+            ("desk_step", 0) => format!("0, {}", if first(due) > 0 { "stepped" } else { "none left" }),
+            (_, UNJUDGED) => "not judged".into(),
             (_, r) => r.to_string(),
         };
         *self.by.entry(format!("{}: {what}", entry.name)).or_default() += 1;
@@ -109,7 +105,6 @@ fn of_log(kind: &str, case: &LogCase, rng: &mut Rng) -> Vec<Question> {
         Question::new(&VERDICT, vec![book.clone()], vec![]),
         Question::new(&MAX, vec![book.clone()], vec![]),
         Question::new(&RECOVER, vec![book.clone()], vec![case.time as u64]).with_rooms(case.rooms[..2].to_vec()),
-        Question::new(&REPLY, vec![book.clone(), sheet.clone()], vec![]),
     ];
     out.extend(windows(case).into_iter().map(|window| Question::new(&WINDOW, vec![book.clone(), window], vec![])));
     if let Ok(said) = judge::reconstruct_state(book, case.time, usize::MAX, usize::MAX) {
@@ -123,6 +118,7 @@ fn of_log(kind: &str, case: &LogCase, rng: &mut Rng) -> Vec<Question> {
         out.push(Question::new(&EQUAL, [state.to_vec(), vec![book.clone(), altered(rng, &marks), other, said.positions]].concat(), vec![]));
         out.push(Question::new(&ACTION, vec![altered(rng, &marks), altered(rng, &said.orders)], vec![]));
     }
+    out.extend(steps(case, rng));
     if kind == "damaged" {
         for _ in 0..COPIES {
             out.push(Question::new(&CHECK_BOOK, vec![altered(rng, book)], vec![]));
@@ -130,6 +126,20 @@ fn of_log(kind: &str, case: &LogCase, rng: &mut Rng) -> Vec<Question> {
         }
     }
     out
+}
+
+/// A step from the marks before it, one from marks that are altered, one with a number past the end.
+fn steps(case: &LogCase, rng: &mut Rng) -> Vec<Question> {
+    let events = Book::parse(&case.book).map_or(0, |book| book.events.len());
+    let next = rng.below(events + 1);
+    let before = match next {
+        0 => Some(Marks::begin(case.time)),
+        _ => judge::step(&case.book, case.time, next - 1).ok().flatten(),
+    };
+    let marks = before.map_or_else(Vec::new, |m| m.bytes());
+    let lent = [marks.clone(), altered(rng, &marks), marks];
+    let numbers = [next as u64, next as u64, rng.pick(&[events as u64, events as u64 + 1, u32::MAX as u64])];
+    lent.into_iter().zip(numbers).map(|(marks, next)| Question::new(&STEP, vec![case.book.clone(), marks], vec![next])).collect()
 }
 
 fn of_records(case: &RecordsCase) -> Vec<Question> {
@@ -143,21 +153,12 @@ fn of_records(case: &RecordsCase) -> Vec<Question> {
     ]
 }
 
-fn of_drift(case: &DriftCase) -> Vec<Question> {
-    let lists = vec![case.holdings.clone(), case.targets.clone(), case.prices.clone()];
-    vec![
-        Question::new(&DRIFT, lists, vec![case.equity as u64]).with_rooms(vec![case.room]),
-        Question::new(&HELD, vec![case.holdings.clone(), case.prices.clone()], vec![]),
-    ]
-}
-
 /// The first question of a case on which the two disagree.
 fn disagreement(kind: &str, seed: u64, number: u64, fault: Option<Fault>, counts: &mut Counts) -> Result<Option<Question>, String> {
     let rng = &mut Rng::new("altered", seed, number);
     let questions = match generator::case(kind, seed, number) {
         Some(Case::Log(case)) => of_log(kind, &case, rng),
         Some(Case::Records(case)) => of_records(&case),
-        Some(Case::Drift(case)) => of_drift(&case),
         _ => return Err(format!("no kind: {kind}")),
     };
     counts.cases += 1;

@@ -2,7 +2,7 @@
 
 use oracle::doc01::records::DISCREPANCY;
 use oracle::doc01::{Book, Marks, Sheet};
-use oracle::{desk, judge};
+use oracle::judge;
 
 use crate::library::{self, Lent};
 
@@ -22,9 +22,14 @@ pub struct Entry {
     /// Lent outputs before the answer, and the answer's length in bytes, 0 where the number is all.
     pub outputs: usize,
     pub answer: usize,
+    /// Whether the last input is lent as the first output, and altered in place.
+    pub held: bool,
     pub due: fn(&[Vec<u8>], &[u64], &[usize]) -> Due,
     pub call: fn(&[Vec<u8>], &[u64], &mut [Lent]) -> u32,
 }
+
+/// The refusal of a question that the judge does not answer.
+pub const UNJUDGED: u32 = u32::MAX;
 
 /// Bytes of recovery's answer: the marks, three numbers.
 const RECOVERED: usize = 176 + 24;
@@ -87,19 +92,20 @@ fn compared(inputs: &[Vec<u8>], rooms: &[usize]) -> Result<(Vec<u8>, u64, u64), 
     Ok((report, count, (count > 0) as u64))
 }
 
-fn replied(inputs: &[Vec<u8>], rooms: &[usize]) -> Result<(Vec<u8>, u64, u64), u32> {
-    let text = desk::reply(Some(&inputs[0]), Some(&inputs[1])).into_bytes();
-    let length = text.len();
-    if length > rooms[0] {
-        return Err(3);
+/// The original gives marks after a number of a book's events, so other marks are not judged. Where no event has set the time, it is the marks'.
+fn step(inputs: &[Vec<u8>], numbers: &[u64]) -> Result<(Vec<u8>, u64, u64), u32> {
+    Book::limits(&inputs[0])?;
+    let marks = marks(&inputs[1])?;
+    let book = Book::parse(&inputs[0])?;
+    let next = numbers[0] as usize;
+    if next >= book.events.len() {
+        return Ok((inputs[1].clone(), 0, 0));
     }
-    Ok((text, length as u64, 0))
-}
-
-fn drifted(inputs: &[Vec<u8>], numbers: &[u64], rooms: &[usize]) -> Result<(Vec<u8>, u64, u64), u32> {
-    let said = judge::drift(&inputs[0], &inputs[1], &inputs[2], numbers[0] as i64, rooms[0])?;
-    let count = (said.entries.len() / 64) as u64;
-    Ok((said.entries, count, said.tracking))
+    let before = if next == 0 { Marks::begin(marks.time) } else { judge::step(&inputs[0], marks.time, next - 1)?.ok_or(UNJUDGED)? };
+    if before != marks {
+        return Err(UNJUDGED);
+    }
+    Ok((judge::step(&inputs[0], marks.time, next)?.ok_or(UNJUDGED)?.bytes(), 1, 0))
 }
 
 fn verdict(inputs: &[Vec<u8>]) -> Due {
@@ -113,6 +119,7 @@ pub static CHECK_BOOK: Entry = Entry {
     numbers: &[],
     outputs: 0,
     answer: 0,
+    held: false,
     due: |inputs, _, _| refused(Book::parse(&inputs[0]).err().unwrap_or(0)),
     call: library::desk_check_book,
 };
@@ -123,6 +130,7 @@ pub static CHECK_SHEET: Entry = Entry {
     numbers: &[],
     outputs: 0,
     answer: 0,
+    held: false,
     due: |inputs, _, _| refused(Sheet::parse(&inputs[0]).err().unwrap_or(0)),
     call: library::desk_check_sheet,
 };
@@ -133,6 +141,7 @@ pub static VERDICT: Entry = Entry {
     numbers: &[],
     outputs: 0,
     answer: TWO,
+    held: false,
     due: |inputs, _, _| verdict(inputs),
     call: library::desk_validate_checkpoints,
 };
@@ -143,6 +152,7 @@ pub static MAX: Entry = Entry {
     numbers: &[],
     outputs: 0,
     answer: TWO,
+    held: false,
     due: |inputs, _, _| two(judge::max_checkpoint_sequence(&inputs[0]).map(|n| (n, 0))),
     call: library::desk_max_checkpoint_sequence,
 };
@@ -153,6 +163,7 @@ pub static WINDOW: Entry = Entry {
     numbers: &[],
     outputs: 0,
     answer: TWO,
+    held: false,
     due: |inputs, _, _| two(judge::check_window_already_complete(&inputs[0], &inputs[1]).map(|n| (n.is_some() as u64, n.unwrap_or(0)))),
     call: library::desk_check_window_already_complete,
 };
@@ -163,6 +174,7 @@ pub static RECOVER: Entry = Entry {
     numbers: &["time"],
     outputs: 2,
     answer: RECOVERED,
+    held: false,
     due: recover,
     call: library::desk_reconstruct_state,
 };
@@ -173,6 +185,7 @@ pub static ACTION: Entry = Entry {
     numbers: &[],
     outputs: 0,
     answer: TWO,
+    held: false,
     due: |inputs, _, _| two(action(inputs)),
     call: library::desk_recovery_action,
 };
@@ -183,6 +196,7 @@ pub static EQUAL: Entry = Entry {
     numbers: &[],
     outputs: 0,
     answer: TWO,
+    held: false,
     due: |inputs, _, _| two(equal(inputs)),
     call: library::desk_states_equal,
 };
@@ -193,36 +207,18 @@ pub static COMPARE: Entry = Entry {
     numbers: &[],
     outputs: 1,
     answer: TWO,
+    held: false,
     due: |inputs, _, rooms| written(compared(inputs, rooms)),
     call: library::desk_compare_broker_state,
 };
 
-pub static REPLY: Entry = Entry {
-    name: "desk_reply",
-    inputs: &["book", "sheet"],
-    numbers: &[],
+pub static STEP: Entry = Entry {
+    name: "desk_step",
+    inputs: &["book", "marks"],
+    numbers: &["next"],
     outputs: 1,
     answer: TWO,
-    due: |inputs, _, rooms| written(replied(inputs, rooms)),
-    call: library::desk_reply,
-};
-
-pub static DRIFT: Entry = Entry {
-    name: "desk_reconcile",
-    inputs: &["positions", "targets", "prices"],
-    numbers: &["equity"],
-    outputs: 1,
-    answer: TWO,
-    due: |inputs, numbers, rooms| written(drifted(inputs, numbers, rooms)),
-    call: library::desk_reconcile,
-};
-
-pub static HELD: Entry = Entry {
-    name: "desk_held_value",
-    inputs: &["positions", "prices"],
-    numbers: &[],
-    outputs: 0,
-    answer: TWO,
-    due: |inputs, _, _| two(judge::held_value(&inputs[0], &inputs[1]).map(|value| (value as u64, 0))),
-    call: library::desk_held_value,
+    held: true,
+    due: |inputs, numbers, _| written(step(inputs, numbers)),
+    call: library::desk_step,
 };

@@ -1,6 +1,6 @@
 //! One question put to both: the library through its boundary, and the judge.
 
-use crate::entries::{Due, Entry};
+use crate::entries::{Due, Entry, UNJUDGED};
 use crate::library::Lent;
 
 /// Room enough for every output of a case.
@@ -69,21 +69,34 @@ impl Question {
         self.due(&vec![AMPLE; self.entry.outputs])
     }
 
+    /// The bytes that are altered in place.
+    fn held(&self) -> Option<&Vec<u8>> {
+        self.inputs.last().filter(|_| self.entry.held)
+    }
+
     fn asked(&self, rooms: &[usize]) -> Answer {
         let mut lent: Vec<Lent> = rooms.iter().map(|room| Lent::new(*room)).collect();
-        let number = (self.entry.call)(&self.inputs, &self.numbers, &mut lent);
+        let mut inputs = &self.inputs[..];
+        if let Some(held) = self.held() {
+            lent[0] = Lent::holding(held);
+            inputs = &inputs[..inputs.len() - 1];
+        }
+        let number = (self.entry.call)(inputs, &self.numbers, &mut lent);
         Answer { number, beside: lent.iter().any(Lent::beside), outputs: lent.iter().map(|l| l.bytes().to_vec()).collect() }
     }
 
     /// The rooms of the outputs and of the answer: each around the exact one, the others exact; then those that were asked for.
     fn all_rooms(&self, due: &Due) -> Vec<Vec<usize>> {
-        let exact: Vec<usize> = (0..self.entry.outputs).map(|i| due.outputs.get(i).map_or(0, Vec::len)).collect();
+        let mut exact: Vec<usize> = (0..self.entry.outputs).map(|i| due.outputs.get(i).map_or(0, Vec::len)).collect();
+        if let Some(held) = self.held() {
+            exact[0] = held.len();
+        }
         let answer = |rooms: &[usize], last: usize| match self.entry.answer {
             0 => rooms.to_vec(),
             _ => [rooms, &[last]].concat(),
         };
         let mut out = vec![answer(&exact, self.entry.answer)];
-        for (i, room) in exact.iter().enumerate() {
+        for (i, room) in exact.iter().enumerate().filter(|_| !self.entry.held) {
             for other in [0, room / 2, room.wrapping_sub(1), room + 1, room + 64].into_iter().filter(|n| *n <= AMPLE && n != room) {
                 let mut rooms = exact.clone();
                 rooms[i] = other;
@@ -101,10 +114,20 @@ impl Question {
 
     /// The first rooms in which the library's answer is another, with the due answer and the library's.
     pub fn differs(&self, ample: &Due, fault: Option<Fault>, tally: &mut Tally) -> Option<(Vec<usize>, Answer, Answer)> {
+        if ample.refusal == UNJUDGED {
+            return None;
+        }
+        let mut last: Option<(Vec<usize>, Due)> = None;
         for rooms in self.all_rooms(ample) {
             tally.calls += 1;
             tally.bytes += rooms.iter().sum::<usize>() as u64;
-            let due = self.due_in(&rooms, ample);
+            let outputs = &rooms[..self.entry.outputs];
+            let due = match &last {
+                Some((of, due)) if of == outputs => due.clone(),
+                _ => self.due_of(outputs, ample),
+            };
+            last = Some((outputs.to_vec(), due.clone()));
+            let due = self.due_in(&rooms, due);
             let answer = faulty(self.asked(&rooms), &due, fault);
             if answer != due {
                 return Some((rooms, due, answer));
@@ -113,34 +136,33 @@ impl Question {
         None
     }
 
-    /// The due answer in given rooms. An answer that does not fit is 3, after every other refusal; a refusal leaves every output zero.
-    fn due_in(&self, rooms: &[usize], ample: &Due) -> Answer {
-        let outputs = &rooms[..self.entry.outputs];
+    /// The judge's answer in given rooms of the outputs.
+    fn due_of(&self, outputs: &[usize], ample: &Due) -> Due {
         let exact = outputs.iter().zip(&ample.outputs).all(|(room, output)| *room >= output.len());
         // Recovery tests its rooms after each event, so that a room that takes the end's records need not do.
-        let due = if outputs.is_empty() || (self.entry.outputs == 1 && exact) { ample.clone() } else { self.due(outputs) };
-        let mut number = due.refusal;
-        let mut bytes: Vec<Vec<u8>> = rooms.iter().map(|room| vec![0; *room]).collect();
-        let short = self.entry.answer > 0 && rooms[self.entry.outputs] < self.entry.answer;
-        if number == 0 && short {
-            number = 3;
-        } else if !short {
-            for (room, said) in bytes.iter_mut().zip(due.outputs.iter().chain([&due.answer])) {
-                if said.len() > room.len() {
-                    number = 3;
-                }
-            }
-            if number != 3 {
-                let answer = due.answer.clone();
-                for (i, said) in due.outputs.iter().enumerate() {
-                    bytes[i][..said.len()].copy_from_slice(said);
-                }
-                if self.entry.answer > 0 {
-                    bytes[self.entry.outputs][..answer.len()].copy_from_slice(&answer);
-                }
-            }
+        if outputs.is_empty() || (self.entry.outputs == 1 && exact) {
+            ample.clone()
+        } else {
+            self.due(outputs)
         }
-        Answer { number, outputs: bytes, beside: false }
+    }
+
+    /// With the answer's room too: an answer that does not fit is 3, after every other refusal. A refusal leaves every output zero, and held bytes
+    /// as they were.
+    fn due_in(&self, rooms: &[usize], due: Due) -> Answer {
+        let mut outputs: Vec<Vec<u8>> = rooms.iter().map(|room| vec![0; *room]).collect();
+        if let Some(held) = self.held() {
+            outputs[0] = held.clone();
+        }
+        let short = self.entry.answer > 0 && rooms[self.entry.outputs] < self.entry.answer;
+        if short {
+            return Answer { number: if due.refusal == 0 { 3 } else { due.refusal }, outputs, beside: false };
+        }
+        let said = due.outputs.iter().zip(0..).chain([(&due.answer, self.entry.outputs)]);
+        for (bytes, i) in said.filter(|(bytes, _)| !bytes.is_empty()) {
+            outputs[i][..bytes.len()].copy_from_slice(bytes);
+        }
+        Answer { number: due.refusal, outputs, beside: false }
     }
 }
 

@@ -56,7 +56,7 @@ flag-written d at p = sym (sets-number 1 (truthNumber (p .intent)) (bytesOf 1 (t
 
 pub flags-written : (d : List ℕ) (m : Marks) →
     sets (sets (sets (sets (sets (sets (sets d 32 (bytesOf 1 (truthNumber (m .completed)))) 33 (bytesOf 1 (truthNumber (m .cancelfailed))))
-      34 (flagBytes (m .positions))) 36 (flagBytes (m .quotes))) 38 (flagBytes (m .account))) 40 (flagBytes (m .cancel))) 42 (bytesOf 6 0)
+    34 (flagBytes (m .positions))) 36 (flagBytes (m .quotes))) 38 (flagBytes (m .account))) 40 (flagBytes (m .cancel))) 42 (bytesOf 6 0)
     ≡ sets d 32 (flagsBytes m)
 flags-written d m = simp (append-assoc, sets-number)
 

@@ -39,8 +39,7 @@ returns c =
     let room = length (a .args .answer .now) in
     let r = c .before .before .before .before .before .before .before .before .before .before .before .before .before .before .before .before .reconstruct-state in
     let e = rw (toZ-ofZ w64 (a .args .time) (a .fits .time)) at (r .ensures) in
-    let g = c .before .before .give-recovery .ensures in
-    (
+    let g = c .before .before .give-recovery .ensures in (
       g .0 ∙ ap (λ (x : Recovery). roomNumber 200 (recoveryNumber x) room) (e .0),
       (
         beside 200 room _ _ _ _ _ (c .before .before .before .before .before .before .before .before .before .before .clear-if-short .ensures) (r .kept .1 .1 .0) (e .1),

@@ -25,8 +25,7 @@ same-length c = search needs
 returns : tie.Need-returns
 returns c =
     let room = length (c .before .before .before .before .before .before .before .before .args .answer .now) in
-    let h = subst (λ (m : ℕ). m < 200) (c .before .before .before .before .before .clear .kept .0) (c .before .if1 .taken) in
-    (
+    let h = subst (λ (m : ℕ). m < 200) (c .before .before .before .before .before .clear .kept .0) (c .before .if1 .taken) in (
       c .without-room .ensures ∙ ap (λ (x : ℕ). roomNumber 16 x 0) (c .before .before .recovery-number .ensures) ∙ short-number 200 _ room h,
       c .before .before .before .before .before .clear .ensures ∙ short-bytes 200 room h room _,
     )
@@ -40,8 +39,7 @@ same-length-2 c = search needs
 returns-2 : tie.Need-returns-2
 returns-2 c =
     let room = length (c .before .before .before .before .before .before .before .before .before .before .before .args .answer .now) in
-    let h = subst (λ (m : ℕ). 200 ≤ m) (c .before .before .before .before .before .before .before .before .clear .kept .0) (c .before .before .before .before .if1 .left) in
-    (
+    let h = subst (λ (m : ℕ). 200 ≤ m) (c .before .before .before .before .before .before .before .before .clear .kept .0) (c .before .before .before .before .if1 .left) in (
       c .before .before .before .before .before .recovery-number .ensures ∙ number-given 200 _ room h,
       c .before .before .put-recovery .ensures ∙ ap (recoveryBytes (c .before .before .before .before .before .before .before .before .before .before .before .args .r)) (c .before .before .before .before .before .before .before .before .clear .kept .0) ∙ roomy-bytes 200 room h room _,
     )

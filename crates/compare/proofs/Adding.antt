@@ -15,7 +15,7 @@ use Rattle.wire.specs.Table.{encoded}
 use Rattle.wire.proofs.Written.{length-bytesOf}
 use Rattle.wire.proofs.Words.{bytes-add, sets-number}
 use Rattle.wire.proofs.Records.{padded-none, appended}
-use Rattle.compare.specs.Report.{before, critical, fieldBytes48, discrepancyBytes}
+use Rattle.compare.specs.Report.{before, critical, recordBytes, discrepancyBytes}
 use Rattle.compare.specs.Compare.{fittingReport, bytesIf}
 use Rattle.compare.specs.Buffer.{Holds, Adds, Answers}
 use Rattle.compare.specs.declared.Comparison.{Comparison}
@@ -42,7 +42,7 @@ pub six-words : (d : List ℕ) (at : ℕ) (f : Fields) → f .kind < 256 ^ 4 →
     (bytesOf 8 (f .second)))
     (at + 40)
     (bytesOf 8 0)
-    ≡ sets d at (fieldBytes48 f)
+    ≡ sets d at (recordBytes f)
 six-words d at f h =
     let z : f .kind + 256 ^ 4 * 0 ≡ f .kind = omega arith in
     let e : bytesOf 8 (f .kind) ≡ bytesOf 4 (f .kind) ++ bytesOf 4 0 = ap (bytesOf 8) (sym z) ∙ bytes-add 4 4 (f .kind) 0 h in

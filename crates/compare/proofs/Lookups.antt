@@ -3,7 +3,7 @@
 use Prim.Native.Nat.{ℕ, zero, suc, _+_, _*_, _≤_, _<_}
 use mathlib.Core.Path.{_≡_, refl, ap}
 use mathlib.Core.List.{List}
-use mathlib.Core.Bool.{true, false, not, _&&_}
+use mathlib.Core.Bool.{true, false}
 use native.Mathlib.Omega.{arith}
 use lib.ListN.{drop}
 use Rattle.wire.specs.Table.{records}
@@ -11,8 +11,8 @@ use Rattle.symbol.specs.declared.Symbol.{Symbol}
 use Rattle.cell.specs.declared.TextRef.{TextRef}
 use Rattle.cell.specs.declared.AsStr.{AsStr}
 use Rattle.cell.specs.declared.AsStr.the-variants as Str
-use Rattle.records.specs.Record.{present, positionOf}
-use Rattle.records.specs.Search.{holds}
+use Rattle.records.specs.Record.{positionOf}
+use Rattle.records.specs.Search.{holds, isIntent}
 use Rattle.records.specs.declared.order.Order.{Order}
 use Rattle.records.proofs.Walk.{rest, rest-all, rest-next, rest-none}
 use Rattle.marks.specs.declared.Marks.{Marks}
@@ -41,15 +41,12 @@ module _ (y : Symbol) (n : ℕ) (s : List ℕ) where
   expected-end i h = rw (rest-none positionOf 32 n s i h)
 
 -- ---- an order that is no open intent, and one that is
-pub no-intent : (o : Order) (t : AsStr) → (present t && not (o .submitted) && not (o .failed)) ≡ false → Nothing ≡ intentWith o t
+pub no-intent : (o : Order) (t : AsStr) → isIntent o ≡ false → Nothing ≡ intentWith o t
 no-intent o (Str.Is r) h = rw h
 no-intent o Str.Nothing h = refl
 
-pub an-intent : (o : Order) (t : AsStr) (r : TextRef) → t ≡ Str.Is r → (present t && not (o .submitted) && not (o .failed)) ≡ true
-    → Is (IncompleteIntent (o .symbol) r) ≡ intentWith o t
-an-intent o t r e h =
-    let b : (not (o .submitted) && not (o .failed)) ≡ true = rw e at h in
-    rw (e, b)
+pub an-intent : (o : Order) (t : AsStr) (r : TextRef) → t ≡ Str.Is r → isIntent o ≡ true → Is (IncompleteIntent (o .symbol) r) ≡ intentWith o t
+an-intent o t r e h = rw (e, h)
 
 -- the fourth mark
 pub mark-last : (m : Marks) (i : ℕ) → 3 ≤ i → markAt m i ≡ notedIf (unanswered (m .cancel)) IncompleteCancelIntent

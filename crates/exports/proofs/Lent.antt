@@ -47,16 +47,19 @@ pub told : {a b u v r x : Layout} → r ≡ bothOf a b → a ≡ u → b ≡ v �
 told h p q e = rw (← p, ← q) (sym h ∙ e)
 
 -- ---- recovery's answer, written part by part
-three-words : (d : List ℕ) (x y z : ℕ) → sets (sets (sets d 176 (bytesOf 8 x)) 184 (bytesOf 8 y)) 192 (bytesOf 8 z) ≡ sets d 176 (bytesOf 8 x ++ bytesOf 8 y ++ bytesOf 8 z)
+three-words : (d : List ℕ) (x y z : ℕ)
+    → sets (sets (sets d 176 (bytesOf 8 x)) 184 (bytesOf 8 y)) 192 (bytesOf 8 z) ≡ sets d 176 (bytesOf 8 x ++ bytesOf 8 y ++ bytesOf 8 z)
 three-words d x y z = simp (append-assoc, sets-number)
 
 pub recovered-written : (d : List ℕ) (r : Recovered)
-    → sets (sets (sets (sets d 0 (marksBytes (r .marks))) 176 (bytesOf 8 (r .orders))) 184 (bytesOf 8 (r .positions))) 192 (bytesOf 8 (actionCode (r .action)))
+    → sets (sets (sets (sets d 0 (marksBytes (r .marks))) 176 (bytesOf 8 (r .orders))) 184 (bytesOf 8 (r .positions))) 192
+    (bytesOf 8 (actionCode (r .action)))
     ≡ sets d 0 (recoveredBytes r)
 unfolding recoveredBytes
 recovered-written d r =
     three-words (sets d 0 (marksBytes (r .marks))) (r .orders) (r .positions) (actionCode (r .action))
-    ∙ behind 176 (marksBytes (r .marks)) (bytesOf 8 (r .orders) ++ bytesOf 8 (r .positions) ++ bytesOf 8 (actionCode (r .action))) d 0 (marks-size (r .marks))
+    ∙ behind 176 (marksBytes (r .marks)) (bytesOf 8 (r .orders) ++ bytesOf 8 (r .positions) ++ bytesOf 8 (actionCode (r .action))) d 0
+    (marks-size (r .marks))
 
 -- ---- a lent record of marks
 whole : (s t : List ℕ) → length t ≡ length s → sets s 0 t ≡ t

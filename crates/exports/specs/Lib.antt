@@ -1,3 +1,4 @@
 pub mod Answer
+pub mod DriftAnswer
 pub mod RecoveryAnswer
 pub mod TypesEntries

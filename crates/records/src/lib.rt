@@ -6,4 +6,4 @@ mod flags;
 pub mod order;
 pub mod position;
 pub mod search;
-mod words;
+pub mod words;

@@ -5,10 +5,12 @@ use std::panic::{catch_unwind, AssertUnwindSafe};
 
 use oracle::doc01::book::{Cell, WINDOW as WINDOW_CELL};
 use oracle::doc01::{Book, Marks};
-use oracle::generator::{self, Case, LogCase, RecordsCase, Rng};
+use oracle::generator::{self, Case, DriftCase, LogCase, RecordsCase, Rng};
 use oracle::judge;
 
-use crate::entries::{Due, Entry, ACTION, CHECK_BOOK, CHECK_SHEET, COMPARE, EQUAL, MAX, RECOVER, STEP, UNJUDGED, VERDICT, WINDOW};
+use crate::entries::{
+    Due, Entry, ACTION, CHECK_BOOK, CHECK_SHEET, COMPARE, DRIFT, EQUAL, HELD, MAX, RECOVER, REPLY, STEP, UNJUDGED, VERDICT, WINDOW,
+};
 use crate::question::{Fault, Question, Tally, FAULTS};
 use crate::smallest::{print, smallest};
 
@@ -44,6 +46,11 @@ impl Counts {
             ("desk_recovery_action", 0) => format!("0, {}", ["Restart", "Resume", "ManualReview"][first(due) as usize]),
             ("desk_states_equal", 0) => format!("0, {}", if first(due) > 0 { "equal" } else { "unequal" }),
             ("desk_compare_broker_state", 0) => format!("0, {}", if first(due) > 0 { "discrepancies" } else { "none" }),
+            ("desk_reply", 0) => {
+                let text = String::from_utf8_lossy(&due.outputs[0]).into_owned();
+                let line = text.lines().next().unwrap_or("").to_string();
+                if line.starts_with("verdict 0") { "accepted".into() } else { line.split(' ').take(2).collect::<Vec<_>>().join(" ") }
+            }
             ("desk_step", 0) => format!("0, {}", if first(due) > 0 { "stepped" } else { "none left" }),
             (_, UNJUDGED) => "not judged".into(),
             (_, r) => r.to_string(),
@@ -105,6 +112,7 @@ fn of_log(kind: &str, case: &LogCase, rng: &mut Rng) -> Vec<Question> {
         Question::new(&VERDICT, vec![book.clone()], vec![]),
         Question::new(&MAX, vec![book.clone()], vec![]),
         Question::new(&RECOVER, vec![book.clone()], vec![case.time as u64]).with_rooms(case.rooms[..2].to_vec()),
+        Question::new(&REPLY, vec![book.clone(), sheet.clone()], vec![]),
     ];
     out.extend(windows(case).into_iter().map(|window| Question::new(&WINDOW, vec![book.clone(), window], vec![])));
     if let Ok(said) = judge::reconstruct_state(book, case.time, usize::MAX, usize::MAX) {
@@ -153,12 +161,21 @@ fn of_records(case: &RecordsCase) -> Vec<Question> {
     ]
 }
 
+fn of_drift(case: &DriftCase) -> Vec<Question> {
+    let lists = vec![case.holdings.clone(), case.targets.clone(), case.prices.clone()];
+    vec![
+        Question::new(&DRIFT, lists, vec![case.equity as u64]).with_rooms(vec![case.room]),
+        Question::new(&HELD, vec![case.holdings.clone(), case.prices.clone()], vec![]),
+    ]
+}
+
 /// The first question of a case on which the two disagree.
 fn disagreement(kind: &str, seed: u64, number: u64, fault: Option<Fault>, counts: &mut Counts) -> Result<Option<Question>, String> {
     let rng = &mut Rng::new("altered", seed, number);
     let questions = match generator::case(kind, seed, number) {
         Some(Case::Log(case)) => of_log(kind, &case, rng),
         Some(Case::Records(case)) => of_records(&case),
+        Some(Case::Drift(case)) => of_drift(&case),
         _ => return Err(format!("no kind: {kind}")),
     };
     counts.cases += 1;

@@ -1,8 +1,10 @@
 //! Each entry of the library with the judge's answer to the same inputs.
 
+use std::cell::RefCell;
+
 use oracle::doc01::records::DISCREPANCY;
 use oracle::doc01::{Book, Marks, Sheet};
-use oracle::judge;
+use oracle::{desk, judge, original};
 
 use crate::library::{self, Lent};
 
@@ -62,12 +64,38 @@ fn marks(bytes: &[u8]) -> Result<Marks, u32> {
     Marks::parse(bytes).ok_or(2)
 }
 
-fn recover(inputs: &[Vec<u8>], numbers_: &[u64], rooms: &[usize]) -> Due {
-    match judge::reconstruct_state(&inputs[0], numbers_[0] as i64, rooms[0], rooms[1]) {
-        Ok(said) => {
-            let counts = [(said.orders.len() / 64) as u64, (said.positions.len() / 32) as u64, said.action as u64];
-            Due { refusal: 0, answer: [said.marks.bytes(), numbers(&counts)].concat(), outputs: vec![said.orders, said.positions] }
+/// What the original recovers from a book, and the most orders and positions after any event.
+#[derive(Clone)]
+struct Recovery {
+    answer: Due,
+    most: (usize, usize),
+}
+
+thread_local! {
+    /// The recovery asked for last: it is asked for again in other rooms.
+    static LAST: RefCell<Option<(Vec<u8>, u64, Result<Recovery, u32>)>> = const { RefCell::new(None) };
+}
+
+fn recovery(book: &[u8], time: u64) -> Result<Recovery, u32> {
+    let said = judge::reconstruct_state(book, time as i64, usize::MAX, usize::MAX)?;
+    let most = original::peak(&Book::parse(book)?).map_err(|_| UNJUDGED)?;
+    let counts = [(said.orders.len() / 64) as u64, (said.positions.len() / 32) as u64, said.action as u64];
+    let answer = [said.marks.bytes(), numbers(&counts)].concat();
+    Ok(Recovery { answer: Due { refusal: 0, answer, outputs: vec![said.orders, said.positions] }, most })
+}
+
+/// The rooms are tested after each event, so that a room that takes the end's records need not do.
+fn recover(inputs: &[Vec<u8>], numbers: &[u64], rooms: &[usize]) -> Due {
+    let said = LAST.with(|last| {
+        let mut last = last.borrow_mut();
+        match &*last {
+            Some((book, time, said)) if book == &inputs[0] && *time == numbers[0] => said.clone(),
+            _ => last.insert((inputs[0].clone(), numbers[0], recovery(&inputs[0], numbers[0]))).2.clone(),
         }
+    });
+    match said {
+        Ok(said) if said.most.0 * 64 > rooms[0] || said.most.1 * 32 > rooms[1] => refused(3),
+        Ok(said) => said.answer,
         Err(refusal) => refused(refusal),
     }
 }
@@ -90,6 +118,21 @@ fn compared(inputs: &[Vec<u8>], rooms: &[usize]) -> Result<(Vec<u8>, u64, u64), 
     let report = judge::compare_broker_state(&marks(&inputs[0])?, &inputs[1], &inputs[2], &inputs[3], rooms[0])?;
     let count = (report.len() / DISCREPANCY) as u64;
     Ok((report, count, (count > 0) as u64))
+}
+
+fn replied(inputs: &[Vec<u8>], rooms: &[usize]) -> Result<(Vec<u8>, u64, u64), u32> {
+    let text = desk::reply(Some(&inputs[0]), Some(&inputs[1])).into_bytes();
+    let length = text.len();
+    if length > rooms[0] {
+        return Err(3);
+    }
+    Ok((text, length as u64, 0))
+}
+
+fn drifted(inputs: &[Vec<u8>], numbers: &[u64], rooms: &[usize]) -> Result<(Vec<u8>, u64, u64), u32> {
+    let said = judge::drift(&inputs[0], &inputs[1], &inputs[2], numbers[0] as i64, rooms[0])?;
+    let count = (said.entries.len() / 64) as u64;
+    Ok((said.entries, count, said.tracking))
 }
 
 /// The original gives marks after a number of a book's events, so other marks are not judged. Where no event has set the time, it is the marks'.
@@ -221,4 +264,37 @@ pub static STEP: Entry = Entry {
     held: true,
     due: |inputs, numbers, _| written(step(inputs, numbers)),
     call: library::desk_step,
+};
+
+pub static REPLY: Entry = Entry {
+    name: "desk_reply",
+    inputs: &["book", "sheet"],
+    numbers: &[],
+    outputs: 1,
+    answer: TWO,
+    held: false,
+    due: |inputs, _, rooms| written(replied(inputs, rooms)),
+    call: library::desk_reply,
+};
+
+pub static DRIFT: Entry = Entry {
+    name: "desk_reconcile",
+    inputs: &["positions", "targets", "prices"],
+    numbers: &["equity"],
+    outputs: 1,
+    answer: TWO,
+    held: false,
+    due: |inputs, numbers, rooms| written(drifted(inputs, numbers, rooms)),
+    call: library::desk_reconcile,
+};
+
+pub static HELD: Entry = Entry {
+    name: "desk_held_value",
+    inputs: &["positions", "prices"],
+    numbers: &[],
+    outputs: 0,
+    answer: TWO,
+    held: false,
+    due: |inputs, _, _| two(judge::held_value(&inputs[0], &inputs[1]).map(|value| (value as u64, 0))),
+    call: library::desk_held_value,
 };

@@ -63,3 +63,6 @@ entry!(desk_step(book; next: u32; marks, answer));
 entry!(desk_recovery_action(marks, orders; ; answer));
 entry!(desk_states_equal(book_a, marks_a, orders_a, positions_a, book_b, marks_b, orders_b, positions_b; ; answer));
 entry!(desk_compare_broker_state(marks, orders, positions, sheet; ; report, answer));
+entry!(desk_reply(book, sheet; ; text, answer));
+entry!(desk_reconcile(positions, targets, prices; equity: i64; entries, answer));
+entry!(desk_held_value(positions, prices; ; answer));

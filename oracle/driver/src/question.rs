@@ -139,7 +139,7 @@ impl Question {
     /// The judge's answer in given rooms of the outputs.
     fn due_of(&self, outputs: &[usize], ample: &Due) -> Due {
         let exact = outputs.iter().zip(&ample.outputs).all(|(room, output)| *room >= output.len());
-        // Recovery tests its rooms after each event, so that a room that takes the end's records need not do.
+        // Of two outputs, a room that takes the end's records need not do: see `recover`.
         if outputs.is_empty() || (self.entry.outputs == 1 && exact) {
             ample.clone()
         } else {

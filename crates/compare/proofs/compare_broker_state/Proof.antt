@@ -1,13 +1,19 @@
 -- `compare_broker_state`: by the layout's case.
 use borrow.Author.Needs.{needs}
-use mathlib.Core.Path.{_≡_, refl}
+use mathlib.Core.Path.{_≡_, refl, sym, _∙_}
 use denote.Ref.{now}
 use lib.ListN.{length}
-use Rattle.wire.specs.declared.layout.Layout.the-variants as L
 use Rattle.compare.specs.Compare.{lentReport, lentLayout, comparison, reportOut}
 use Rattle.compare.proofs.Adding.{answers-at}
 use Rattle.compare.proofs.compare_broker_state.Statement.{statement}
 use Rattle.compare.proofs.compare_broker_state.Tie as tie
+
+-- the layout that both tests give
+the-layout : (b : tie.After-both2) → b .both2 .result
+    ≡ lentLayout (now (b .before .before .before .before .before .before .before .before .before .args .orders)) (now (b .before .before .before .before .before .before .before .before .before .args .positions)) (now (b .before .before .before .before .before .before .before .before .before .args .sheet))
+the-layout b =
+    b .both2 .ensures
+    ∙ rw (b .before .check .ensures, b .before .before .both .ensures, b .before .before .before .before .check-orders .ensures, b .before .before .before .check-positions .ensures)
 
 check-orders-requires : tie.Need-check-orders-requires
 check-orders-requires c κs = search needs
@@ -51,12 +57,16 @@ same-length c = search needs
 returns : tie.Need-returns
 unfolding comparison reportOut
 returns c =
-    let a = c .before .before .before .before .before .before .before .before .before .before .before .before .before .before .before .before .before .before .before .args in
-    let e : lentLayout (now (a .orders)) (now (a .positions)) (now (a .sheet)) ≡ L.Sound =
-    rw (← c .before .before .before .before .before .before .before .before .before .before .before .check .ensures, ← c .before .before .before .before .before .before .before .before .before .before .before .before .before .before .check-orders .ensures, ← c .before .before .before .before .before .before .before .before .before .before .before .before .before .check-positions .ensures, ← c .before .before .before .before .before .before .before .before .before .before .before .before .both .ensures, ← c .before .before .before .before .before .before .before .before .before .before .both2 .ensures) (c .before .before .before .before .before .before .before .before .enum-told .given .1) in
+    let b = c .before .before .before .before .before .before .before .before .before .before in
+    let a = b .before .before .before .before .before .before .before .before .before .args in
+    let e = sym (the-layout b) ∙ c .before .before .before .before .before .before .before .before .enum-told .given .1 in
     let r = c .before .before .before .before .before .before .report in
+    let s = c .before .before .answered in
     rw e
-    (answers-at (length (now (a .out))) (lentReport (a .marks) (now (a .orders)) (now (a .positions)) (now (a .sheet))) (r .result) (r .last .0) (c .before .before .answered .last .0) (c .before .before .answered .result) (r .kept .0) (c .before .before .answered .ensures) (r .ensures))
+    (answers-at (length (now (a .out))) (lentReport (a .marks) (now (a .orders)) (now (a .positions)) (now (a .sheet))) (r .result) (r .last .0) (s .last .0) (s .result)
+    (r .kept .0)
+    (s .ensures)
+    (r .ensures))
 
 same-length-2 : tie.Need-same-length-2
 same-length-2 c = search needs
@@ -64,10 +74,7 @@ same-length-2 c = search needs
 returns-2 : tie.Need-returns-2
 unfolding comparison reportOut
 returns-2 c =
-    let a = c .before .before .before .before .before .before .before .before .before .before .before .before .before .before .before .args in
-    let e : lentLayout (now (a .orders)) (now (a .positions)) (now (a .sheet)) ≡ L.Oversize =
-    rw (← c .before .before .before .before .before .before .before .check .ensures, ← c .before .before .before .before .before .before .before .before .before .before .check-orders .ensures, ← c .before .before .before .before .before .before .before .before .before .check-positions .ensures, ← c .before .before .before .before .before .before .before .before .both .ensures, ← c .before .before .before .before .before .before .both2 .ensures) (c .before .before .before .before .enum-told2 .given .1) in
-    rw e (refl, c .before .before .clear .ensures)
+    rw (sym (the-layout (c .before .before .before .before .before .before)) ∙ c .before .before .before .before .enum-told2 .given .1) (refl, c .before .before .clear .ensures)
 
 same-length-3 : tie.Need-same-length-3
 same-length-3 c = search needs
@@ -75,10 +82,7 @@ same-length-3 c = search needs
 returns-3 : tie.Need-returns-3
 unfolding comparison reportOut
 returns-3 c =
-    let a = c .before .before .before .before .before .before .before .before .before .before .before .before .before .before .before .args in
-    let e : lentLayout (now (a .orders)) (now (a .positions)) (now (a .sheet)) ≡ L.Broken =
-    rw (← c .before .before .before .before .before .before .before .check .ensures, ← c .before .before .before .before .before .before .before .before .before .before .check-orders .ensures, ← c .before .before .before .before .before .before .before .before .before .check-positions .ensures, ← c .before .before .before .before .before .before .before .before .both .ensures, ← c .before .before .before .before .before .before .both2 .ensures) (c .before .before .before .before .enum-told3 .given .1) in
-    rw e (refl, c .before .before .clear2 .ensures)
+    rw (sym (the-layout (c .before .before .before .before .before .before)) ∙ c .before .before .before .before .enum-told3 .given .1) (refl, c .before .before .clear2 .ensures)
 
 pub compare-broker-state-spec : {M : Type 1} → statement M
 compare-broker-state-spec =

@@ -36,34 +36,51 @@ run-requires-6 : tie.Need-run-requires-6
 run-requires-6 c κs = search needs
 
 same-length : tie.Need-same-length
-same-length c = c .before .before .run6 .kept .0 ∙ c .before .before .before .before .before .before .run5 .kept .0 ∙ c .before .before .before .before .before .before .before .before .before .before .run4 .kept .0 ∙ c .before .before .before .before .before .before .before .before .before .before .before .before .before .before .run3 .kept .0 ∙ c .before .before .before .before .before .before .before .before .before .before .before .before .before .before .before .before .before .before .run2 .kept .0 ∙ c .before .before .before .before .before .before .before .before .before .before .before .before .before .before .before .before .before .before .before .before .before .before .run .kept .0 ∙ c .before .before .before .before .before .before .before .before .before .before .before .before .before .before .before .before .before .before .before .before .before .before .before .before .before .before .clear .kept .0
+same-length c =
+    let s6 = c .before .before in
+    let s5 = s6 .before .before .before .before in
+    let s4 = s5 .before .before .before .before in
+    let s3 = s4 .before .before .before .before in
+    let s2 = s3 .before .before .before .before in
+    let s1 = s2 .before .before .before .before in
+    let s0 = s1 .before .before .before .before in
+    s6 .run6 .kept .0 ∙ s5 .run5 .kept .0 ∙ s4 .run4 .kept .0 ∙ s3 .run3 .kept .0 ∙ s2 .run2 .kept .0 ∙ s1 .run .kept .0 ∙ s0 .clear .kept .0
 
 returns : tie.Need-returns
 unfolding report
 returns c =
-    let a = c .before .before .before .before .before .before .before .before .before .before .before .before .before .before .before .before .before .before .before .before .before .before .before .before .before .before .before .before .before .before .before .before .args in
+    let s6 = c .before .before in
+    let s5 = s6 .before .before .before .before in
+    let s4 = s5 .before .before .before .before in
+    let s3 = s4 .before .before .before .before in
+    let s2 = s3 .before .before .before .before in
+    let s1 = s2 .before .before .before .before in
+    let s0 = s1 .before .before .before .before in
+    let a = s0 .before .before .before .before .before .before .args in
     let len = length (now (a .out)) in
     let of : Pass → List Discrepancy = λ p. passOf p (a .marks) (now (a .orders)) (now (a .positions)) (now (a .sheet)) in
-    let c0 = c .before .before .before .before .before .before .before .before .before .before .before .before .before .before .before .before .before .before .before .before .before .before .before .before .before .before .clear in
-    let h0 : Holds (S.Is 0) [] len (c0 .last .0) = rw (c0 .ensures) (holds-none len) in
-    let r1 = c .before .before .before .before .before .before .before .before .before .before .before .before .before .before .before .before .before .before .before .before .before .before .run in
-    let k1 = c0 .kept .0 in
-    let h1 = holds-more len [] (of Orphans) (S.Is 0) (r1 .result) (c0 .last .0) (r1 .last .0) k1 (r1 .ensures) h0 in
-    let r2 = c .before .before .before .before .before .before .before .before .before .before .before .before .before .before .before .before .before .before .run2 in
-    let k2 = r1 .kept .0 ∙ k1 in
-    let h2 = holds-more len (of Orphans) (of MissingOrders) (r1 .result) (r2 .result) (r1 .last .0) (r2 .last .0) k2 (r2 .ensures) h1 in
-    let r3 = c .before .before .before .before .before .before .before .before .before .before .before .before .before .before .run3 in
+    let r0 = s0 .clear in
+    let r1 = s1 .run in
+    let r2 = s2 .run2 in
+    let r3 = s3 .run3 in
+    let r4 = s4 .run4 in
+    let r5 = s5 .run5 in
+    let r6 = s6 .run6 in
+    let k2 = r1 .kept .0 ∙ r0 .kept .0 in
     let k3 = r2 .kept .0 ∙ k2 in
-    let h3 = holds-more len (of Orphans ++ of MissingOrders) (of Mismatches) (r2 .result) (r3 .result) (r2 .last .0) (r3 .last .0) k3 (r3 .ensures) h2 in
-    let r4 = c .before .before .before .before .before .before .before .before .before .before .run4 in
     let k4 = r3 .kept .0 ∙ k3 in
-    let h4 = holds-more len (of Orphans ++ of MissingOrders ++ of Mismatches) (of Unlisted) (r3 .result) (r4 .result) (r3 .last .0) (r4 .last .0) k4 (r4 .ensures) h3 in
-    let r5 = c .before .before .before .before .before .before .run5 in
     let k5 = r4 .kept .0 ∙ k4 in
-    let h5 = holds-more len (of Orphans ++ of MissingOrders ++ of Mismatches ++ of Unlisted) (of Intents) (r4 .result) (r5 .result) (r4 .last .0) (r5 .last .0) k5 (r5 .ensures) h4 in
-    let r6 = c .before .before .run6 in
     let k6 = r5 .kept .0 ∙ k5 in
-    holds-more len (of Orphans ++ of MissingOrders ++ of Mismatches ++ of Unlisted ++ of Intents) (of Incomplete) (r5 .result) (r6 .result) (r5 .last .0) (r6 .last .0) k6 (r6 .ensures) h5
+    let h0 : Holds (S.Is 0) [] len (r0 .last .0) = rw (r0 .ensures) (holds-none len) in
+    let x2 = of Orphans ++ of MissingOrders in
+    let x3 = x2 ++ of Mismatches in
+    let x4 = x3 ++ of Unlisted in
+    let h1 = holds-more len [] (of Orphans) (S.Is 0) (r1 .result) (r0 .last .0) (r1 .last .0) (r0 .kept .0) (r1 .ensures) h0 in
+    let h2 = holds-more len (of Orphans) (of MissingOrders) (r1 .result) (r2 .result) (r1 .last .0) (r2 .last .0) k2 (r2 .ensures) h1 in
+    let h3 = holds-more len x2 (of Mismatches) (r2 .result) (r3 .result) (r2 .last .0) (r3 .last .0) k3 (r3 .ensures) h2 in
+    let h4 = holds-more len x3 (of Unlisted) (r3 .result) (r4 .result) (r3 .last .0) (r4 .last .0) k4 (r4 .ensures) h3 in
+    let h5 = holds-more len x4 (of Intents) (r4 .result) (r5 .result) (r4 .last .0) (r5 .last .0) k5 (r5 .ensures) h4 in
+    holds-more len (x4 ++ of Intents) (of Incomplete) (r5 .result) (r6 .result) (r5 .last .0) (r6 .last .0) k6 (r6 .ensures) h5
 
 pub report-spec : {M : Type 1} → statement M
 report-spec =

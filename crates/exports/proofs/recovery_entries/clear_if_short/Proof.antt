@@ -12,7 +12,11 @@ same-length : tie.Need-same-length
 same-length c = search needs
 
 returns : tie.Need-returns
-returns c = c .before .before .clear .ensures ∙ short-bytes (c .before .before .before .before .before .before .args .size) (c .before .before .before .before .before .before .args .room) (c .before .before .before .before .if1 .taken) _ _
+returns c =
+    let clear = c .before .before in
+    let test = clear .before .before in
+    let start = test .before .before in
+    clear .clear .ensures ∙ short-bytes (start .args .size) (start .args .room) (test .if1 .taken) _ _
 
 returns-2 : tie.Need-returns-2
 returns-2 c = roomy-bytes (c .before .before .args .size) (c .before .before .args .room) (c .if1 .left) _ _

@@ -19,8 +19,11 @@ same-length-2 c = search needs
 
 returns : tie.Need-returns
 returns c =
-    let r = c .before .before .before .before .before .before .lent-step .ensures in
-    let g = of-same (length (c .before .before .before .before .before .before .before .before .before .before .before .args .answer .now)) (r .0) (c .before .before .give .ensures) in
+    let give = c .before .before in
+    let lent = give .before .before .before .before in
+    let start = lent .before .before .before .before .before in
+    let r = lent .lent-step .ensures in
+    let g = of-same (length (start .args .answer .now)) (r .0) (give .give .ensures) in
     (g .0, (r .1, g .1))
 
 pub desk-step-spec : {M : Type 1} → statement M

@@ -31,17 +31,24 @@ returns c =
     )
 
 put-recovery-requires : tie.Need-put-recovery-requires
-put-recovery-requires c κs = c .before .before .before .before .before .clear .ensures ∙ ap (λ (n : ℕ). replicate n 0) (sym (c .before .before .before .before .before .clear .kept .0))
+put-recovery-requires c κs =
+    let clear = c .before .before .before .before .before in
+    clear .clear .ensures ∙ ap (λ (n : ℕ). replicate n 0) (sym (clear .clear .kept .0))
 
 same-length-2 : tie.Need-same-length-2
 same-length-2 c = search needs
 
 returns-2 : tie.Need-returns-2
 returns-2 c =
-    let room = length (c .before .before .before .before .before .before .before .before .before .before .before .args .answer .now) in
-    let h = subst (λ (m : ℕ). 200 ≤ m) (c .before .before .before .before .before .before .before .before .clear .kept .0) (c .before .before .before .before .if1 .left) in (
-      c .before .before .before .before .before .recovery-number .ensures ∙ number-given 200 _ room h,
-      c .before .before .put-recovery .ensures ∙ ap (recoveryBytes (c .before .before .before .before .before .before .before .before .before .before .before .args .r)) (c .before .before .before .before .before .before .before .before .clear .kept .0) ∙ roomy-bytes 200 room h room _,
+    let put = c .before .before in
+    let test = put .before .before in
+    let recovery = test .before in
+    let clear = recovery .before .before .before in
+    let start = clear .before .before .before in
+    let room = length (start .args .answer .now) in
+    let h = subst (λ (m : ℕ). 200 ≤ m) (clear .clear .kept .0) (test .if1 .left) in (
+      recovery .recovery-number .ensures ∙ number-given 200 _ room h,
+      put .put-recovery .ensures ∙ ap (recoveryBytes (start .args .r)) (clear .clear .kept .0) ∙ roomy-bytes 200 room h room _,
     )
 
 pub give-recovery-spec : {M : Type 1} → statement M

@@ -36,17 +36,25 @@ broken-marks-requires-2 c κs = search needs
 
 returns : tie.Need-returns
 returns c =
-    let e : marksLayout (now (c .before .before .before .before .before .before .before .before .args .marks)) ≡ L.Sound = sym (c .before .before .before .before .before .check .ensures) ∙ c .before .before .before .enum-told .given .1 in
-    c .action-numbers .ensures ∙ rw (c .before .recovery-action .ensures, c .before .before .marks-of .ensures, e)
+    let marks = c .before .before in
+    let arm = marks .before in
+    let check = arm .before .before in
+    let start = check .before .before .before in
+    let e : marksLayout (now (start .args .marks)) ≡ L.Sound = sym (check .check .ensures) ∙ arm .enum-told .given .1 in
+    c .action-numbers .ensures ∙ rw (c .before .recovery-action .ensures, marks .marks-of .ensures, e)
 
 returns-2 : tie.Need-returns-2
 returns-2 c =
-    let e : marksLayout (now (c .before .before .before .before .before .before .args .marks)) ≡ L.Oversize = sym (c .before .before .before .check .ensures) ∙ c .before .enum-told2 .given .1 in
+    let check = c .before .before .before in
+    let start = check .before .before .before in
+    let e : marksLayout (now (start .args .marks)) ≡ L.Oversize = sym (check .check .ensures) ∙ c .before .enum-told2 .given .1 in
     c .broken-marks .ensures ∙ rw e
 
 returns-3 : tie.Need-returns-3
 returns-3 c =
-    let e : marksLayout (now (c .before .before .before .before .before .before .args .marks)) ≡ L.Broken = sym (c .before .before .before .check .ensures) ∙ c .before .enum-told3 .given .1 in
+    let check = c .before .before .before in
+    let start = check .before .before .before in
+    let e : marksLayout (now (start .args .marks)) ≡ L.Broken = sym (check .check .ensures) ∙ c .before .enum-told3 .given .1 in
     c .broken-marks2 .ensures ∙ rw e
 
 pub lent-action-spec : {M : Type 1} → statement M

@@ -18,7 +18,10 @@ step-answer-requires : tie.Need-step-answer-requires
 step-answer-requires c κs = search needs
 
 put-stepped-requires : tie.Need-put-stepped-requires
-put-stepped-requires c κs = (c .before .step-answer .ensures, sound-length _ (sym (c .before .before .before .before .check .ensures) ∙ c .before .before .enum-told .given .1))
+put-stepped-requires c κs =
+    let arm = c .before .before in
+    let check = arm .before .before in
+    (c .before .step-answer .ensures, sound-length _ (sym (check .check .ensures) ∙ arm .enum-told .given .1))
 
 step-numbers-requires : tie.Need-step-numbers-requires
 step-numbers-requires c κs = search needs
@@ -46,16 +49,24 @@ same-length c = search needs
 
 returns : tie.Need-returns
 returns c =
-    let e : marksLayout (now (c .before .before .before .before .before .before .before .before .before .before .before .before .args .marks)) ≡ L.Sound = sym (c .before .before .before .before .before .before .before .before .check .ensures) ∙ c .before .before .before .before .before .before .enum-told .given .1 in
-    let s = c .before .before .before .before .before .step-answer .ensures in
-    (c .step-numbers .ensures ∙ rw (s, e), c .before .before .before .put-stepped .ensures ∙ rw (s, e))
+    let put = c .before .before .before in
+    let step = put .before .before in
+    let arm = step .before in
+    let check = arm .before .before in
+    let start = check .before .before .before .before in
+    let e : marksLayout (now (start .args .marks)) ≡ L.Sound = sym (check .check .ensures) ∙ arm .enum-told .given .1 in
+    let s = step .step-answer .ensures in
+    (c .step-numbers .ensures ∙ rw (s, e), put .put-stepped .ensures ∙ rw (s, e))
 
 same-length-2 : tie.Need-same-length-2
 same-length-2 c = search needs
 
 returns-2 : tie.Need-returns-2
 returns-2 c =
-    let e : marksLayout (now (c .before .before .before .before .before .before .before .before .args .marks)) ≡ L.Oversize = sym (c .before .before .before .before .check .ensures) ∙ c .before .before .enum-told2 .given .1 in
+    let arm = c .before .before in
+    let check = arm .before .before in
+    let start = check .before .before .before .before in
+    let e : marksLayout (now (start .args .marks)) ≡ L.Oversize = sym (check .check .ensures) ∙ arm .enum-told2 .given .1 in
     (c .broken-marks .ensures ∙ rw (c .before .check2 .ensures, e), rw e)
 
 same-length-3 : tie.Need-same-length-3
@@ -63,7 +74,10 @@ same-length-3 c = search needs
 
 returns-3 : tie.Need-returns-3
 returns-3 c =
-    let e : marksLayout (now (c .before .before .before .before .before .before .before .before .args .marks)) ≡ L.Broken = sym (c .before .before .before .before .check .ensures) ∙ c .before .before .enum-told3 .given .1 in
+    let arm = c .before .before in
+    let check = arm .before .before in
+    let start = check .before .before .before .before in
+    let e : marksLayout (now (start .args .marks)) ≡ L.Broken = sym (check .check .ensures) ∙ arm .enum-told3 .given .1 in
     (c .broken-marks2 .ensures ∙ rw (c .before .check3 .ensures, e), rw e)
 
 pub lent-step-spec : {M : Type 1} → statement M

@@ -32,9 +32,15 @@ same-length c = search needs
 
 returns : tie.Need-returns
 returns c =
-    let a = c .before .before .before .before .before .before .before .before .before .before .before .before .before .before .before .before .before .before .before .before .before .args in
-    c .before .before .put-u643 .ensures
-    ∙ rw (c .before .before .before .action-code .ensures, c .before .before .before .before .before .before .before .put-u642 .ensures, c .before .before .before .before .before .before .before .before .before .before .before .before .put-u64 .ensures, c .before .before .before .before .before .before .before .before .before .before .before .before .before .before .before .before .before .put-marks .ensures) (recovered-written (now (a .d)) (a .r))
+    let put = c .before .before in
+    let action = put .before in
+    let puts = action .before .before .before .before in
+    let putss = puts .before .before .before .before .before in
+    let putsss = putss .before .before .before .before .before in
+    let start = putsss .before .before .before .before in
+    let a = start .args in
+    put .put-u643 .ensures
+    ∙ rw (action .action-code .ensures, puts .put-u642 .ensures, putss .put-u64 .ensures, putsss .put-marks .ensures) (recovered-written (now (a .d)) (a .r))
 
 pub put-recovered-spec : {M : Type 1} → statement M
 put-recovered-spec =

@@ -37,13 +37,19 @@ returns c =
     ∙ ap (λ (r : Recovery). recoveryBytes r (length (now (s .args .answer)))) (sym (x .1))
 
 returns-2 : tie.Need-returns-2
-returns-2 c = c .before .before .before .pre ∙ ap (λ (r : Recovery). recoveryBytes r (length (now (c .before .before .before .args .answer)))) (sym (c .enum-told .given .1))
+returns-2 c =
+    let start = c .before .before .before in
+    start .pre ∙ ap (λ (r : Recovery). recoveryBytes r (length (now (start .args .answer)))) (sym (c .enum-told .given .1))
 
 returns-3 : tie.Need-returns-3
-returns-3 c = c .before .before .before .pre ∙ ap (λ (r : Recovery). recoveryBytes r (length (now (c .before .before .before .args .answer)))) (sym (c .enum-told2 .given .1))
+returns-3 c =
+    let start = c .before .before .before in
+    start .pre ∙ ap (λ (r : Recovery). recoveryBytes r (length (now (start .args .answer)))) (sym (c .enum-told2 .given .1))
 
 returns-4 : tie.Need-returns-4
-returns-4 c = c .before .before .before .pre ∙ ap (λ (r : Recovery). recoveryBytes r (length (now (c .before .before .before .args .answer)))) (sym (c .enum-told3 .given .1))
+returns-4 c =
+    let start = c .before .before .before in
+    start .pre ∙ ap (λ (r : Recovery). recoveryBytes r (length (now (start .args .answer)))) (sym (c .enum-told3 .given .1))
 
 pub put-recovery-spec : {M : Type 1} → statement M
 put-recovery-spec =

@@ -41,13 +41,19 @@ same-length c = search needs
 
 returns-2 : tie.Need-returns-2
 returns-2 c =
-    let a = c .before .before .before .before .before .before .before .before .before .before .before .before .args in
+    let put = c .before .before in
+    let step = put .before .before in
+    let marks = step .before in
+    let arm = marks .before .before in
+    let test = arm .before .before in
+    let start = test .before .before .before in
+    let a = start .args in
     let m = marksAfter (now (a .book)) (a .next) (marksOf (now (a .marks))) in
     let r =
-    c .before .before .before .before .step-marks .ensures ∙ ap (λ (x : Marks). alteredIf (a .s) (marksStep (eventAt (now (a .book)) (a .next)) x) x) (c .before .before .before .before .before .marks-of .ensures)
-    ∙ after-step (a .s) (now (a .book)) (a .next) (marksOf (now (a .marks))) (c .before .before .before .before .before .before .before .before .before .before .before .before .pre .0) in
-    c .before .before .put-marks .ensures ∙ record-written (now (a .marks)) _ (c .before .before .before .before .before .before .before .before .before .before .before .before .pre .1) ∙ ap marksBytes r
-    ∙ sym (ap (λ (x : Stepped). recordIf x (now (a .marks)) m) (c .before .before .before .before .before .before .before .enum-told .given .1)) ∙ altered (a .room) _ _ (c .before .before .before .before .before .before .before .before .before .if1 .left)
+    step .step-marks .ensures ∙ ap (λ (x : Marks). alteredIf (a .s) (marksStep (eventAt (now (a .book)) (a .next)) x) x) (marks .marks-of .ensures)
+    ∙ after-step (a .s) (now (a .book)) (a .next) (marksOf (now (a .marks))) (start .pre .0) in
+    put .put-marks .ensures ∙ record-written (now (a .marks)) _ (start .pre .1) ∙ ap marksBytes r
+    ∙ sym (ap (λ (x : Stepped). recordIf x (now (a .marks)) m) (arm .enum-told .given .1)) ∙ altered (a .room) _ _ (test .if1 .left)
 
 returns-3 : tie.Need-returns-3
 returns-3 c =

@@ -23,10 +23,14 @@ same-length-2 c = search needs
 
 returns : tie.Need-returns
 returns c =
-    let room = length (c .before .before .before .before .before .before .before .before .before .before .before .before .before .before .before .before .before .before .args .answer .now) in
-    let r = c .before .before .before .before .before .before .before .before .before .before .lent-comparison in
-    let g = of-same room (r .ensures .0) (c .before .before .give .ensures) in
-    (g .0, (beside 16 room _ _ _ _ _ (c .before .before .before .before .before .before .clear-if-short .ensures) (r .kept .1 .1 .1 .1 .0) (r .ensures .1), g .1))
+    let give = c .before .before in
+    let clear = give .before .before .before .before in
+    let lent = clear .before .before .before .before in
+    let start = lent .before .before .before .before .before .before .before .before in
+    let room = length (start .args .answer .now) in
+    let r = lent .lent-comparison in
+    let g = of-same room (r .ensures .0) (give .give .ensures) in
+    (g .0, (beside 16 room _ _ _ _ _ (clear .clear-if-short .ensures) (r .kept .1 .1 .1 .1 .0) (r .ensures .1), g .1))
 
 pub desk-compare-broker-state-spec : {M : Type 1} → statement M
 desk-compare-broker-state-spec =

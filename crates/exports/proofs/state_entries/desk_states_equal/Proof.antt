@@ -15,7 +15,11 @@ same-length : tie.Need-same-length
 same-length c = search needs
 
 returns : tie.Need-returns
-returns c = of-same (length (c .before .before .before .before .before .before .before .before .before .before .before .before .before .before .args .answer .now)) (c .before .before .before .before .lent-equality .ensures) (c .before .before .give .ensures)
+returns c =
+    let give = c .before .before in
+    let lent = give .before .before in
+    let start = lent .before .before .before .before .before .before .before .before .before .before in
+    of-same (length (start .args .answer .now)) (lent .lent-equality .ensures) (give .give .ensures)
 
 pub desk-states-equal-spec : {M : Type 1} → statement M
 desk-states-equal-spec =

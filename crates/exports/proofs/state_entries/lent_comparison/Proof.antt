@@ -52,25 +52,38 @@ same-length c = search needs
 
 returns : tie.Need-returns
 returns c =
-    let e : marksLayout (now (c .before .before .before .before .before .before .before .before .before .before .before .before .before .before .args .marks)) ≡ L.Sound = sym (c .before .before .before .before .before .before .before .before .check .ensures) ∙ c .before .before .before .before .before .before .enum-told .given .1 in
-    let r = c .before .before .before .compare-broker-state .ensures in
-    (c .comparison-numbers .ensures ∙ rw (r .0, c .before .before .before .before .before .marks-of .ensures, e), r .1 ∙ rw (c .before .before .before .before .before .marks-of .ensures, e))
+    let compare = c .before .before .before in
+    let marks = compare .before .before in
+    let arm = marks .before in
+    let check = arm .before .before in
+    let start = check .before .before .before .before .before .before in
+    let e : marksLayout (now (start .args .marks)) ≡ L.Sound = sym (check .check .ensures) ∙ arm .enum-told .given .1 in
+    let r = compare .compare-broker-state .ensures in
+    (c .comparison-numbers .ensures ∙ rw (r .0, marks .marks-of .ensures, e), r .1 ∙ rw (marks .marks-of .ensures, e))
 
 same-length-2 : tie.Need-same-length-2
 same-length-2 c = search needs
 
 returns-2 : tie.Need-returns-2
 returns-2 c =
-    let e : marksLayout (now (c .before .before .before .before .before .before .before .before .before .before .before .before .before .before .args .marks)) ≡ L.Oversize = sym (c .before .before .before .before .before .before .before .before .check .ensures) ∙ c .before .before .before .before .before .before .enum-told2 .given .1 in
-    (c .broken-marks .ensures ∙ rw (c .before .check2 .ensures, e), c .before .before .before .before .clear .ensures ∙ rw e)
+    let clear = c .before .before .before .before in
+    let arm = clear .before .before in
+    let check = arm .before .before in
+    let start = check .before .before .before .before .before .before in
+    let e : marksLayout (now (start .args .marks)) ≡ L.Oversize = sym (check .check .ensures) ∙ arm .enum-told2 .given .1 in
+    (c .broken-marks .ensures ∙ rw (c .before .check2 .ensures, e), clear .clear .ensures ∙ rw e)
 
 same-length-3 : tie.Need-same-length-3
 same-length-3 c = search needs
 
 returns-3 : tie.Need-returns-3
 returns-3 c =
-    let e : marksLayout (now (c .before .before .before .before .before .before .before .before .before .before .before .before .before .before .args .marks)) ≡ L.Broken = sym (c .before .before .before .before .before .before .before .before .check .ensures) ∙ c .before .before .before .before .before .before .enum-told3 .given .1 in
-    (c .broken-marks2 .ensures ∙ rw (c .before .check3 .ensures, e), c .before .before .before .before .clear2 .ensures ∙ rw e)
+    let clear = c .before .before .before .before in
+    let arm = clear .before .before in
+    let check = arm .before .before in
+    let start = check .before .before .before .before .before .before in
+    let e : marksLayout (now (start .args .marks)) ≡ L.Broken = sym (check .check .ensures) ∙ arm .enum-told3 .given .1 in
+    (c .broken-marks2 .ensures ∙ rw (c .before .check3 .ensures, e), clear .clear2 .ensures ∙ rw e)
 
 pub lent-comparison-spec : {M : Type 1} → statement M
 lent-comparison-spec =

@@ -1,0 +1,89 @@
+-- The refusals of `reconcile` and `held_value`, in their order.
+-- Assumes nothing.
+use Prim.Native.Nat.{ℕ}
+use mathlib.Core.Path.{_≡_, refl}
+use mathlib.Core.Bool.{true, false}
+use mathlib.Core.List.{List, [], map}
+use native.Mathlib.Omega.{arith}
+use lib.IntN.{ℤ}
+use lib.ListN.{replicate}
+use Rattle.wire.specs.Layout.{bothOf}
+use Rattle.wire.specs.declared.layout.Layout.{Layout}
+use Rattle.wire.specs.declared.layout.Layout.the-variants as Lay
+use Rattle.wire.specs.Table.{every, records}
+use Rattle.records.specs.Record.{tableOk}
+use Rattle.drift.specs.Rows.{valued, heldIn, targetsIn, pricesIn, rowsLayout}
+use Rattle.drift.specs.Symbols.{allWhere}
+use Rattle.drift.specs.Entry.{weightOk}
+use Rattle.drift.specs.Report.{linesOf, reportOf, outputOf, values, listsLayout, driftOf, driftBytes}
+use Rattle.drift.specs.Value.{worth, valueOf, heldOf}
+use Rattle.drift.specs.Code.{SoundLists}
+use Rattle.drift.specs.declared.held.Held.the-variants as H
+use Rattle.drift.specs.declared.report.Drift.{Drift}
+use Rattle.drift.specs.declared.report.Drift.the-variants as D
+
+never : {A : Type 0} → Lay.Oversize ≡ Lay.Sound → A
+never h = let z : _≡_ {A = ℕ} 0 1 = cc in absurd (omega arith)
+
+never-broken : {A : Type 0} → Lay.Broken ≡ Lay.Sound → A
+never-broken h = let z : _≡_ {A = ℕ} 0 1 = cc in absurd (omega arith)
+
+-- two layouts that are sound together are each sound
+pub both-sound : (a b : Layout) → bothOf a b ≡ Lay.Sound → (a ≡ Lay.Sound) × (b ≡ Lay.Sound)
+both-sound Lay.Sound b e = (refl, e)
+both-sound Lay.Oversize b e = never e
+both-sound Lay.Broken Lay.Sound e = never-broken e
+both-sound Lay.Broken Lay.Oversize e = never e
+both-sound Lay.Broken Lay.Broken e = never-broken e
+
+pub sound-lists : (p t q : List ℕ) → listsLayout p t q ≡ Lay.Sound → SoundLists p t q
+sound-lists p t q e =
+    let a = both-sound (rowsLayout 32 p) (bothOf (rowsLayout 24 t) (rowsLayout 24 q)) e in
+    let b = both-sound (rowsLayout 24 t) (rowsLayout 24 q) (a .1) in
+    record { held = a .0; wanted = b .0; priced = b .1 }
+
+module _ (p t q : List ℕ) (equity : ℤ) (room : ℕ) where
+  pub refused-oversize : listsLayout p t q ≡ Lay.Oversize → (D.Oversize ≡ driftOf p t q equity room) × (replicate room 0 ≡ driftBytes p t q equity room)
+  unfolding driftOf driftBytes
+  refused-oversize e = rw e (refl, refl)
+
+  pub refused-broken : listsLayout p t q ≡ Lay.Broken → (D.Broken ≡ driftOf p t q equity room) × (replicate room 0 ≡ driftBytes p t q equity room)
+  unfolding driftOf driftBytes
+  refused-broken e = rw e (refl, refl)
+
+  pub refused-weight : listsLayout p t q ≡ Lay.Sound → allWhere weightOk (values (targetsIn t)) ≡ false
+      → (D.BadWeight ≡ driftOf p t q equity room) × (replicate room 0 ≡ driftBytes p t q equity room)
+  unfolding driftOf driftBytes
+  refused-weight e w = rw (e, w) (refl, refl)
+
+  pub reported : listsLayout p t q ≡ Lay.Sound → allWhere weightOk (values (targetsIn t)) ≡ true
+      → driftOf p t q equity room ≡ reportOf (linesOf (heldIn p) (targetsIn t) (pricesIn q)) equity room
+  unfolding driftOf
+  reported e w = rw (e, w)
+
+  pub report-bytes : (r : Drift) → r ≡ driftOf p t q equity room → outputOf r (linesOf (heldIn p) (targetsIn t) (pricesIn q)) equity room ≡ driftBytes p t q equity room
+  unfolding driftBytes
+  report-bytes r e = rw e
+
+-- ---- an empty list: it is sound, and targets nothing
+pub empty-sound : rowsLayout 24 [] ≡ Lay.Sound
+unfolding rowsLayout tableOk every
+empty-sound = refl
+
+pub none-targeted : targetsIn [] ≡ []
+unfolding valued records
+none-targeted = refl
+
+-- ---- held value
+module _ (p q : List ℕ) where
+  pub held-oversize : bothOf (rowsLayout 32 p) (rowsLayout 24 q) ≡ Lay.Oversize → H.Oversize ≡ heldOf p q
+  unfolding heldOf
+  held-oversize e = rw e
+
+  pub held-broken : bothOf (rowsLayout 32 p) (rowsLayout 24 q) ≡ Lay.Broken → H.Broken ≡ heldOf p q
+  unfolding heldOf
+  held-broken e = rw e
+
+  pub held-sound : bothOf (rowsLayout 32 p) (rowsLayout 24 q) ≡ Lay.Sound → valueOf (map worth (linesOf (heldIn p) [] (pricesIn q))) ≡ heldOf p q
+  unfolding heldOf
+  held-sound e = rw e

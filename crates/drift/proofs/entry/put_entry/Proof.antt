@@ -1,0 +1,86 @@
+-- `entry::put_entry`: the two halves, one behind the other; nothing past the end.
+use borrow.Author.Needs.{needs}
+use Rattle.drift.proofs.entry.put_entry.Statement.{statement}
+use Rattle.drift.proofs.entry.put_entry.Tie as tie
+use mathlib.Core.Path.{sym, _∙_}
+use denote.Ref.{now}
+use mir.Syntax.{w64}
+use mir.ValLaws.{toZ-ofZ}
+use Rattle.wire.proofs.Written.{sets-past}
+use Rattle.drift.specs.Entry.{entryBytes}
+use Rattle.drift.specs.Code.{symbolAt}
+use Rattle.drift.proofs.Bytes64.{two-halves}
+
+returns : tie.Need-returns
+returns c =
+    let a = c .before .before .args in
+    sym (sets-past (now (a .d)) (a .at) (entryBytes (symbolAt (a .x)) (a .e)) (c .if1 .taken))
+
+len-of-requires : tie.Need-len-of-requires
+len-of-requires c κs = search needs
+
+to-bits-requires : tie.Need-to-bits-requires
+to-bits-requires c κs = search needs
+
+to-bits-requires-2 : tie.Need-to-bits-requires-2
+to-bits-requires-2 c κs = search needs
+
+put-four-requires : tie.Need-put-four-requires
+put-four-requires c κs = search needs
+
+unsigned-requires : tie.Need-unsigned-requires
+unsigned-requires c κs = search needs
+
+unsigned-requires-2 : tie.Need-unsigned-requires-2
+unsigned-requires-2 c κs = search needs
+
+unsigned-requires-3 : tie.Need-unsigned-requires-3
+unsigned-requires-3 c κs = search needs
+
+add-put-four : tie.Need-add-put-four
+add-put-four c = search needs
+
+to-bits-requires-3 : tie.Need-to-bits-requires-3
+to-bits-requires-3 c κs = search needs
+
+put-four-requires-2 : tie.Need-put-four-requires-2
+put-four-requires-2 c κs = search needs
+
+same-length : tie.Need-same-length
+same-length c = search needs
+
+returns-2 : tie.Need-returns-2
+returns-2 c =
+    let a = c .before .before .before .before .before .before .before .before .before .before .before .before .before .before .before .before .before .before .before .before .args in
+    c .before .before .put-four2 .ensures
+    ∙ rw (
+      c .before .before .before .before .before .before .before .before .before .before .before .before .before .put-four .ensures,
+      c .before .before .before .before .before .before .before .before .before .before .before .before .before .before .before .before .len-of .ensures,
+      c .before .before .before .before .before .before .before .before .before .before .before .before .before .before .before .to-bits .ensures,
+      c .before .before .before .before .before .before .before .before .before .before .before .before .before .before .to-bits2 .ensures,
+      c .before .before .before .to-bits3 .ensures,
+      c .before .before .before .before .before .before .before .before .before .unsigned .ensures,
+      c .before .before .before .before .before .before .before .unsigned2 .ensures,
+      c .before .before .before .before .before .unsigned3 .ensures,
+      toZ-ofZ w64 (a .e .«target_shares») (search needs),
+      toZ-ofZ w64 (a .e .«actual_shares») (search needs),
+      toZ-ofZ w64 (a .e .«diff_shares») (search needs),
+    ) (two-halves (now (a .d)) (a .at) (symbolAt (a .x)) (a .e))
+
+pub put-entry-spec : {M : Type 1} → statement M
+put-entry-spec =
+    tie.close
+    (tie.spec
+    returns
+    len-of-requires
+    to-bits-requires
+    to-bits-requires-2
+    put-four-requires
+    unsigned-requires
+    unsigned-requires-2
+    unsigned-requires-3
+    add-put-four
+    to-bits-requires-3
+    put-four-requires-2
+    same-length
+    returns-2)

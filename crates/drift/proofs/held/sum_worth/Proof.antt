@@ -1,0 +1,188 @@
+-- `held::sum_worth`: what was added and what is left come to the whole; each is raised by 2 ^ 63.
+use Rattle.drift.proofs.held.sum_worth.Statement.{statement}
+use Rattle.drift.proofs.held.sum_worth.Tie as tie
+use borrow.Author.Needs.{needs}
+use Prim.Native.Nat.{_+_, _*_, _-_, _^_, _≤_, _<_}
+use mathlib.Core.Path.{_≡_, sym, ap, _∙_}
+use mathlib.Core.List.{[], map}
+use native.Mathlib.Omega.{arith}
+use denote.Ref.{now}
+use mir.Syntax.{w64}
+use mir.Val.{SFits}
+use mir.ValLaws.{toZ-ofZ}
+use Rattle.drift.specs.Symbols.{allWhere}
+use Rattle.drift.specs.Entry.{fits64}
+use Rattle.drift.specs.Value.{worth, total}
+use Rattle.drift.specs.Code.{wholeOf, lineAt, linesAt, raised}
+use Rattle.drift.specs.declared.whole.Whole.the-variants as Z
+use Rattle.drift.specs.declared.held.Held.the-variants as H
+use Rattle.drift.proofs.Answers.{whole-is, whole-over}
+use Rattle.drift.proofs.Totals.{raisedSum, raised-small}
+use Rattle.drift.proofs.Runs.{left, left-all, raised-next, raised-end, fits-next, fits-stop, fits-end, length-worth}
+use Rattle.drift.proofs.Valued.{value-product, value-over, value-is, total-of}
+
+abbrev Inv-loop : tie.InvT-loop
+Inv-loop quantities costs n high₀ low₀ k₀ high low k =
+    (k ≤ n) × (high ≤ k * 0x1_0000_0000) × (low ≤ k * 0x1_0000_0000)
+    × (allWhere fits64 (map worth (linesAt [] quantities [] costs n)) ≡ allWhere fits64 (map worth (left (lineAt [] quantities [] costs) n k)))
+    × (high * 0x1_0000_0000 + low + raisedSum (map worth (left (lineAt [] quantities [] costs) n k)) ≡ raisedSum (map worth (linesAt [] quantities [] costs n)))
+
+abbrev μ-loop : tie.MeasureT-loop
+μ-loop quantities costs n high₀ low₀ k₀ high low k = n - k
+
+loop-holds : tie.Need-loop-holds Inv-loop μ-loop
+loop-holds c =
+    let a = c .before .before .args in
+    let e = left-all (lineAt [] (now (a .quantities)) [] (now (a .costs))) (a .n) in
+    (omega arith, omega arith, omega arith, rw e, rw e (omega arith))
+
+mul-signed : tie.Need-mul-signed Inv-loop μ-loop
+mul-signed c = search needs
+
+shared-slice-read-signed : tie.Need-shared-slice-read-signed Inv-loop μ-loop
+shared-slice-read-signed c = search needs
+
+signed-requires : tie.Need-signed-requires Inv-loop μ-loop
+signed-requires c κs = search needs
+
+mul-signed-2 : tie.Need-mul-signed-2 Inv-loop μ-loop
+mul-signed-2 c = search needs
+
+shared-slice-read-signed-2 : tie.Need-shared-slice-read-signed-2 Inv-loop μ-loop
+shared-slice-read-signed-2 c = search needs
+
+signed-requires-2 : tie.Need-signed-requires-2 Inv-loop μ-loop
+signed-requires-2 c κs = search needs
+
+worth-of-requires : tie.Need-worth-of-requires Inv-loop μ-loop
+worth-of-requires c κs = search needs
+
+enum-known-added : tie.Need-enum-known-added Inv-loop μ-loop
+enum-known-added c = search needs
+
+enum-told : tie.Need-enum-told Inv-loop μ-loop
+enum-told c = search needs
+
+returns : tie.Need-returns Inv-loop μ-loop
+returns c =
+    let a = c .before .before .before .before .before .before .before .before .before .before .before .args in
+    let l = c .before .before .before .before .before .before .before .before .loop in
+    let f = lineAt [] (now (a .quantities)) [] (now (a .costs)) in
+    let q = toZ-ofZ w64 (c .before .before .before .before .before .signed .result) (record { sfits = c .before .before .before .before .before .signed .ok }) ∙ c .before .before .before .before .before .signed .ensures in
+    let p = toZ-ofZ w64 (c .before .before .before .signed2 .result) (record { sfits = c .before .before .before .signed2 .ok }) ∙ c .before .before .before .signed2 .ensures in
+    let z : wholeOf (worth (f (l .k))) ≡ Z.Over = rw (q, p) at (sym (c .before .before .worth-of .ensures) ∙ c .enum-told .given .1) in
+    value-product (map worth (linesAt [] (now (a .quantities)) [] (now (a .costs)) (a .n))) (l .inv .3 ∙ fits-stop f (a .n) (l .k) (c .before .before .before .before .before .before .before .loop-test .taken) (whole-over (worth (f (l .k))) z))
+
+raise-requires : tie.Need-raise-requires Inv-loop μ-loop
+raise-requires c κs = search needs
+
+add-high : tie.Need-add-high Inv-loop μ-loop
+add-high c =
+    let u = raised-small (c .before .before .added .given .0 .0) (record { sfits = c .before .known-told .given .0 .1 }) in
+    let l = c .before .before .before .before .before .before .before .before .before .before .loop in
+    omega (arith, l .inv .0, l .inv .1, c .before .before .before .before .before .before .before .before .before .before .before .before .before .pre .0, c .before .before .before .before .before .before .before .before .before .loop-test .taken)
+
+add-low : tie.Need-add-low Inv-loop μ-loop
+add-low c =
+    let l = c .before .before .before .before .before .before .before .before .before .before .loop in
+    omega (arith, l .inv .0, l .inv .2, c .before .before .before .before .before .before .before .before .before .before .before .before .before .pre .0, c .before .before .before .before .before .before .before .before .before .loop-test .taken)
+
+add-k : tie.Need-add-k Inv-loop μ-loop
+add-k c = search needs
+
+loop-less : tie.Need-loop-less Inv-loop μ-loop
+loop-less c = search needs
+
+loop-again : tie.Need-loop-again Inv-loop μ-loop
+loop-again c =
+    let a = c .before .before .before .before .before .before .before .before .before .before .before .before .before .args in
+    let l = c .before .before .before .before .before .before .before .before .before .before .loop in
+    let f = lineAt [] (now (a .quantities)) [] (now (a .costs)) in
+    let q = toZ-ofZ w64 (c .before .before .before .before .before .before .before .signed .result) (record { sfits = c .before .before .before .before .before .before .before .signed .ok }) ∙ c .before .before .before .before .before .before .before .signed .ensures in
+    let p = toZ-ofZ w64 (c .before .before .before .before .before .signed2 .result) (record { sfits = c .before .before .before .before .before .signed2 .ok }) ∙ c .before .before .before .before .before .signed2 .ensures in
+    let x = c .before .before .added .given .0 .0 in
+    let fx : SFits w64 x = record { sfits = c .before .known-told .given .0 .1 } in
+    let z : wholeOf (worth (f (l .k))) ≡ Z.Is x = rw (q, p) at (sym (c .before .before .before .before .worth-of .ensures) ∙ c .before .before .added .given .1) in
+    let r = whole-is (worth (f (l .k))) x z in
+    let up = c .raise .result in
+    let e : up ≡ raised x = c .raise .ensures ∙ ap raised (toZ-ofZ w64 x fx) in
+    let u : up ≡ raised (worth (f (l .k))) = e ∙ ap raised (r .1) in
+    let s : up < 2 ^ 64 = rw e (raised-small x fx) in
+    let h = c .before .before .before .before .before .before .before .before .before .loop-test .taken in
+    let d = raised-next f (a .n) (l .k) h in
+    let i1 = l .inv .1 in
+    let i2 = l .inv .2 in
+    let i4 = l .inv .4 in
+    (omega arith, omega (arith, i1, s), omega (arith, i2), l .inv .3 ∙ fits-next f (a .n) (l .k) h (r .0), omega (arith, u, d, i4))
+
+lower-requires : tie.Need-lower-requires Inv-loop μ-loop
+lower-requires c κs =
+    let l = c .before .loop in
+    let i0 = l .inv .0 in
+    let i1 = l .inv .1 in
+    let i2 = l .inv .2 in
+    let m = c .before .before .before .before .pre .0 in
+    (omega (arith, i0, i1, m), (omega (arith, i0, i2, m), m))
+
+enum-known-all : tie.Need-enum-known-all Inv-loop μ-loop
+enum-known-all c = search needs
+
+enum-told-2 : tie.Need-enum-told-2 Inv-loop μ-loop
+enum-told-2 c = search needs
+
+returns-2 : tie.Need-returns-2 Inv-loop μ-loop
+returns-2 c =
+    let a = c .before .before .before .before .before .before .before .before .args in
+    let l = c .before .before .before .before .before .loop in
+    let f = lineAt [] (now (a .quantities)) [] (now (a .costs)) in
+    let zs = map worth (linesAt [] (now (a .quantities)) [] (now (a .costs)) (a .n)) in
+    let h = c .before .before .before .before .loop-test .left in
+    let s : l .high * 0x1_0000_0000 + l .low ≡ raisedSum zs = omega (arith, l .inv .4, raised-end f (a .n) (l .k) h) in
+    let g = l .inv .3 ∙ fits-end f (a .n) (l .k) h in
+    let t = total-of zs (l .high * 0x1_0000_0000 + l .low) (a .n) s (length-worth f (a .n)) g in
+    let x = c .before .all .given .0 .0 in
+    let w : wholeOf (total zs) ≡ Z.Is x = ap wholeOf (sym t) ∙ sym (c .before .before .before .lower .ensures) ∙ c .before .all .given .1 in
+    let r = whole-is (total zs) x w in
+    ap H.Value (toZ-ofZ w64 x (record { sfits = c .known-told2 .given .0 .1 }) ∙ r .1) ∙ value-is zs g (r .0)
+
+returns-3 : tie.Need-returns-3 Inv-loop μ-loop
+returns-3 c =
+    let a = c .before .before .before .before .before .before .before .args in
+    let l = c .before .before .before .before .loop in
+    let f = lineAt [] (now (a .quantities)) [] (now (a .costs)) in
+    let zs = map worth (linesAt [] (now (a .quantities)) [] (now (a .costs)) (a .n)) in
+    let h = c .before .before .before .loop-test .left in
+    let s : l .high * 0x1_0000_0000 + l .low ≡ raisedSum zs = omega (arith, l .inv .4, raised-end f (a .n) (l .k) h) in
+    let g = l .inv .3 ∙ fits-end f (a .n) (l .k) h in
+    let t = total-of zs (l .high * 0x1_0000_0000 + l .low) (a .n) s (length-worth f (a .n)) g in
+    let w : wholeOf (total zs) ≡ Z.Over = ap wholeOf (sym t) ∙ sym (c .before .before .lower .ensures) ∙ c .enum-told2 .given .1 in
+    value-over zs g (whole-over (total zs) w)
+
+pub sum-worth-spec : {M : Type 1} → statement M
+sum-worth-spec =
+    tie.close
+    (tie.spec
+    Inv-loop
+    μ-loop
+    loop-holds
+    mul-signed
+    shared-slice-read-signed
+    signed-requires
+    mul-signed-2
+    shared-slice-read-signed-2
+    signed-requires-2
+    worth-of-requires
+    enum-known-added
+    enum-told
+    returns
+    raise-requires
+    add-high
+    add-low
+    add-k
+    loop-less
+    loop-again
+    lower-requires
+    enum-known-all
+    enum-told-2
+    returns-2
+    returns-3)

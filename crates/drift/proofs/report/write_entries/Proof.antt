@@ -1,0 +1,222 @@
+-- `report::write_entries`: what is left of the lines decides, is summed on, and is written behind what is.
+use Rattle.drift.proofs.report.write_entries.Statement.{statement}
+use Rattle.drift.proofs.report.write_entries.Tie as tie
+use borrow.Author.Needs.{needs}
+use Prim.Native.Nat.{ℕ, _+_, _*_, _-_, _≤_}
+use mathlib.Core.Path.{_≡_, refl, sym, ap, subst, _∙_}
+use mathlib.Core.List.{List, map}
+use native.Mathlib.Nat.{mul-zero}
+use native.Mathlib.Omega.{arith}
+use denote.Ref.{now}
+use lib.IntN.{ℤ}
+use lib.Ieee.{binary64, add, mul, ofBits}
+use lib.ListN.{length, getD, replicate}
+use lib.Seq.{sets}
+use mir.Syntax.{w64}
+use mir.Val.{toZ, ofZ}
+use mir.ValLaws.{toZ-ofZ}
+use Rattle.wire.specs.Table.{encoded, padded}
+use Rattle.drift.specs.Symbols.{allWhere}
+use Rattle.drift.specs.Entry.{entryBytes, lineEntry, lineFits, lineBytes}
+use Rattle.drift.specs.Report.{squares, reportOf}
+use Rattle.drift.specs.Code.{madeOf, symbolAt, lineAt, linesAt}
+use Rattle.drift.specs.declared.entry.ReconcileEntry.{ReconcileEntry}
+use Rattle.drift.specs.declared.entry.Made.the-variants as M
+use Rattle.drift.specs.declared.report.Drift.the-variants as D
+use Rattle.drift.proofs.Answers.{made-is, made-over}
+use Rattle.drift.proofs.Runs.{left, left-all, all-next, all-stop, all-end, squares-next, squares-end, bytes-next, bytes-end, bytes-whole, out-of-range, no-room, done}
+
+abbrev Inv-loop : tie.InvT-loop
+Inv-loop words quantities weights costs n equity entries₀ sum₀ k₀ entries sum k =
+    (length entries ≡ length entries₀) × (k ≤ n)
+    × (allWhere (lineFits (toZ w64 equity)) (linesAt words quantities weights costs n) ≡ allWhere (lineFits (toZ w64 equity)) (left (lineAt words quantities weights costs) n k))
+    × (squares sum (map (lineEntry (toZ w64 equity)) (left (lineAt words quantities weights costs) n k)) ≡ squares (ofBits binary64 0) (map (lineEntry (toZ w64 equity)) (linesAt words quantities weights costs n)))
+    × (sets entries (64 * k) (encoded (lineBytes (toZ w64 equity)) (left (lineAt words quantities weights costs) n k)) ≡ sets entries₀ 0 (encoded (lineBytes (toZ w64 equity)) (linesAt words quantities weights costs n)))
+
+abbrev μ-loop : tie.MeasureT-loop
+μ-loop words quantities weights costs n equity entries₀ sum₀ k₀ entries sum k = n - k
+
+loop-holds : tie.Need-loop-holds Inv-loop μ-loop
+loop-holds c =
+    let a = c .before .before .before .before .before .args in
+    let e = left-all (lineAt (now (a .words)) (now (a .quantities)) (now (a .weights)) (now (a .costs))) (a .n) in
+    (refl, omega arith, rw e, rw e, rw (e, mul-zero 64))
+
+mul-signed : tie.Need-mul-signed Inv-loop μ-loop
+mul-signed c = search needs
+
+shared-slice-read-signed : tie.Need-shared-slice-read-signed Inv-loop μ-loop
+shared-slice-read-signed c = search needs
+
+signed-requires : tie.Need-signed-requires Inv-loop μ-loop
+signed-requires c κs = search needs
+
+mul-from-bits : tie.Need-mul-from-bits Inv-loop μ-loop
+mul-from-bits c = search needs
+
+shared-slice-read-from-bits : tie.Need-shared-slice-read-from-bits Inv-loop μ-loop
+shared-slice-read-from-bits c = search needs
+
+from-bits-requires : tie.Need-from-bits-requires Inv-loop μ-loop
+from-bits-requires c κs = search needs
+
+mul-signed-2 : tie.Need-mul-signed-2 Inv-loop μ-loop
+mul-signed-2 c = search needs
+
+shared-slice-read-signed-2 : tie.Need-shared-slice-read-signed-2 Inv-loop μ-loop
+shared-slice-read-signed-2 c = search needs
+
+signed-requires-2 : tie.Need-signed-requires-2 Inv-loop μ-loop
+signed-requires-2 c κs = search needs
+
+entry-of-requires : tie.Need-entry-of-requires Inv-loop μ-loop
+entry-of-requires c κs = search needs
+
+enum-known-made : tie.Need-enum-known-made Inv-loop μ-loop
+enum-known-made c = search needs
+
+enum-told : tie.Need-enum-told Inv-loop μ-loop
+enum-told c = search needs
+
+clear-requires : tie.Need-clear-requires Inv-loop μ-loop
+clear-requires c κs = search needs
+
+same-length : tie.Need-same-length Inv-loop μ-loop
+same-length c = c .before .before .clear .kept .0 ∙ c .before .before .before .before .before .before .before .before .before .before .before .before .before .before .loop .inv .0
+
+returns : tie.Need-returns Inv-loop μ-loop
+returns c =
+    let a = c .before .before .before .before .before .before .before .before .before .before .before .before .before .before .before .before .before .before .before .before .args in
+    let l = c .before .before .before .before .before .before .before .before .before .before .before .before .before .before .loop in
+    let e = toZ w64 (ofZ w64 (a .equity)) in
+    let f = lineAt (now (a .words)) (now (a .quantities)) (now (a .weights)) (now (a .costs)) in
+    let q = toZ-ofZ w64 (c .before .before .before .before .before .before .before .before .before .before .before .signed .result) (record { sfits = c .before .before .before .before .before .before .before .before .before .before .before .signed .ok }) ∙ c .before .before .before .before .before .before .before .before .before .before .before .signed .ensures in
+    let p = toZ-ofZ w64 (c .before .before .before .before .before .before .before .signed2 .result) (record { sfits = c .before .before .before .before .before .before .before .signed2 .ok }) ∙ c .before .before .before .before .before .before .before .signed2 .ensures in
+    let z : madeOf (f (l .k) .quantity) (f (l .k) .weight) (f (l .k) .price) e ≡ M.OutOfRange = rw (q, p, c .before .before .before .before .before .before .before .before .before .from-bits .ensures) at (sym (c .before .before .before .before .before .before .entry-of .ensures) ∙ c .before .before .before .before .enum-told .given .1) in
+    let r = made-over (f (l .k) .quantity) (f (l .k) .weight) (f (l .k) .price) e z in
+    let all = linesAt (now (a .words)) (now (a .quantities)) (now (a .weights)) (now (a .costs)) (a .n) in
+    subst (λ (e : ℤ). (D.OutOfRange ≡ reportOf all e (length (now (a .entries)))) × (c .before .before .clear .last .0 ≡ replicate (length (now (a .entries))) 0)) (toZ-ofZ w64 (a .equity) (c .before .before .before .before .before .before .before .before .before .before .before .before .before .before .before .before .before .before .before .before .fits .equity)) (
+      out-of-range f (a .n) e (length (now (a .entries))) (l .inv .2 ∙ all-stop f (a .n) (lineFits e) (l .k) (c .before .before .before .before .before .before .before .before .before .before .before .before .before .loop-test .taken) r),
+      c .before .before .clear .ensures ∙ ap (λ (m : ℕ). replicate {A = ℕ} m 0) (l .inv .0),
+    )
+
+mul-put-entry : tie.Need-mul-put-entry Inv-loop μ-loop
+mul-put-entry c = search needs
+
+mul-put-entry-2 : tie.Need-mul-put-entry-2 Inv-loop μ-loop
+mul-put-entry-2 c = search needs
+
+shared-slice-read-put-entry : tie.Need-shared-slice-read-put-entry Inv-loop μ-loop
+shared-slice-read-put-entry c = search needs
+
+put-entry-requires : tie.Need-put-entry-requires Inv-loop μ-loop
+put-entry-requires c κs = search needs
+
+add-k : tie.Need-add-k Inv-loop μ-loop
+add-k c = search needs
+
+loop-less : tie.Need-loop-less Inv-loop μ-loop
+loop-less c = search needs
+
+loop-again : tie.Need-loop-again Inv-loop μ-loop
+loop-again c =
+    let a = c .before .before .before .before .before .before .before .before .before .before .before .before .before .before .before .before .before .before .before .before .before .before .before .args in
+    let l = c .before .before .before .before .before .before .before .before .before .before .before .before .before .before .before .before .before .loop in
+    let e = toZ w64 (ofZ w64 (a .equity)) in
+    let f = lineAt (now (a .words)) (now (a .quantities)) (now (a .weights)) (now (a .costs)) in
+    let q = toZ-ofZ w64 (c .before .before .before .before .before .before .before .before .before .before .before .before .before .before .signed .result) (record { sfits = c .before .before .before .before .before .before .before .before .before .before .before .before .before .before .signed .ok }) ∙ c .before .before .before .before .before .before .before .before .before .before .before .before .before .before .signed .ensures in
+    let p = toZ-ofZ w64 (c .before .before .before .before .before .before .before .before .before .before .signed2 .result) (record { sfits = c .before .before .before .before .before .before .before .before .before .before .signed2 .ok }) ∙ c .before .before .before .before .before .before .before .before .before .before .signed2 .ensures in
+    let x = c .before .before .before .before .before .before .before .made .given .0 .0 in
+    let z : madeOf (f (l .k) .quantity) (f (l .k) .weight) (f (l .k) .price) e ≡ M.Is x = rw (q, p, c .before .before .before .before .before .before .before .before .before .before .before .before .from-bits .ensures) at (sym (c .before .before .before .before .before .before .before .before .before .entry-of .ensures) ∙ c .before .before .before .before .before .before .before .made .given .1) in
+    let r = made-is (f (l .k) .quantity) (f (l .k) .weight) (f (l .k) .price) e x z in
+    let h = c .before .before .before .before .before .before .before .before .before .before .before .before .before .before .before .before .loop-test .taken in
+    let after = left f (a .n) (l .k + 1) in (
+      c .before .before .before .put-entry .kept .0 ∙ l .inv .0,
+      omega arith,
+      l .inv .2 ∙ all-next f (a .n) (lineFits e) (l .k) h (r .0),
+      ap (λ (y : ReconcileEntry). squares (add binary64 (l .sum) (mul binary64 (y .«diff_weight») (y .«diff_weight»))) (map (lineEntry e) after)) (r .1) ∙ sym (squares-next f (a .n) e (l .sum) (l .k) h) ∙ l .inv .3,
+      ap (λ (d : List ℕ). sets d (64 * (l .k + 1)) (encoded (lineBytes e) after))
+          (c .before .before .before .put-entry .ensures ∙ ap (λ (y : ReconcileEntry). sets (l .entries) (64 * l .k) (entryBytes (symbolAt (getD (now (a .words)) (l .k) 0)) y)) (r .1))
+          ∙ sym (bytes-next f (a .n) e (l .entries) (l .k) h) ∙ l .inv .4,
+    )
+
+clear-requires-2 : tie.Need-clear-requires-2 Inv-loop μ-loop
+clear-requires-2 c κs = search needs
+
+same-length-2 : tie.Need-same-length-2 Inv-loop μ-loop
+same-length-2 c = c .before .before .clear2 .kept .0 ∙ c .before .before .before .before .before .before .loop .inv .0
+
+returns-2 : tie.Need-returns-2 Inv-loop μ-loop
+returns-2 c =
+    let a = c .before .before .before .before .before .before .before .before .before .before .before .before .args in
+    let l = c .before .before .before .before .before .before .loop in
+    let e = toZ w64 (ofZ w64 (a .equity)) in
+    let f = lineAt (now (a .words)) (now (a .quantities)) (now (a .weights)) (now (a .costs)) in
+    let all = linesAt (now (a .words)) (now (a .quantities)) (now (a .weights)) (now (a .costs)) (a .n) in
+    subst (λ (e : ℤ). (D.NoRoom ≡ reportOf all e (length (now (a .entries)))) × (c .before .before .clear2 .last .0 ≡ replicate (length (now (a .entries))) 0)) (toZ-ofZ w64 (a .equity) (c .before .before .before .before .before .before .before .before .before .before .before .before .fits .equity)) (
+      no-room f (a .n) e (length (now (a .entries))) (l .inv .2 ∙ all-end f (a .n) (lineFits e) (l .k) (c .before .before .before .before .before .loop-test .left)) (omega (arith, c .before .before .before .before .if1 .taken, l .inv .0)),
+      c .before .before .clear2 .ensures ∙ ap (λ (m : ℕ). replicate {A = ℕ} m 0) (l .inv .0),
+    )
+
+cast-t36 : tie.Need-cast-t36 Inv-loop μ-loop
+cast-t36 c = search needs
+
+tracking-error-requires : tie.Need-tracking-error-requires Inv-loop μ-loop
+tracking-error-requires c κs = search needs
+
+same-length-3 : tie.Need-same-length-3 Inv-loop μ-loop
+same-length-3 c = c .before .before .before .loop .inv .0
+
+returns-3 : tie.Need-returns-3 Inv-loop μ-loop
+returns-3 c =
+    let a = c .before .before .before .before .before .before .before .before .before .args in
+    let l = c .before .before .before .loop in
+    let e = toZ w64 (ofZ w64 (a .equity)) in
+    let f = lineAt (now (a .words)) (now (a .quantities)) (now (a .weights)) (now (a .costs)) in
+    let room = length (now (a .entries)) in
+    let h = c .before .before .loop-test .left in
+    let fit : 64 * a .n ≤ room = omega (arith, c .before .if1 .left, l .inv .0) in
+    let s = sym (squares-end f (a .n) e (l .sum) (l .k) h) ∙ l .inv .3 in
+    let all = linesAt (now (a .words)) (now (a .quantities)) (now (a .weights)) (now (a .costs)) (a .n) in
+    subst (λ (e : ℤ). (D.Done (a .n) (c .tracking-error .result) ≡ reportOf all e (length (now (a .entries)))) × (l .entries ≡ padded (length (now (a .entries))) (encoded (lineBytes e) all))) (toZ-ofZ w64 (a .equity) (c .before .before .before .before .before .before .before .before .before .fits .equity)) (
+      ap (D.Done (a .n)) (c .tracking-error .ensures) ∙ done f (a .n) e room (l .sum) (l .inv .2 ∙ all-end f (a .n) (lineFits e) (l .k) h) fit s,
+      sym (bytes-end f (a .n) e (l .entries) (l .k) h) ∙ l .inv .4 ∙ ap (λ (d : List ℕ). sets d 0 (encoded (lineBytes e) (linesAt (now (a .words)) (now (a .quantities)) (now (a .weights)) (now (a .costs)) (a .n)))) (c .before .before .before .before .before .before .before .before .before .pre .1)
+          ∙ bytes-whole f (a .n) e room fit,
+    )
+
+pub write-entries-spec : {M : Type 1} → statement M
+write-entries-spec =
+    tie.close
+    (tie.spec
+    Inv-loop
+    μ-loop
+    loop-holds
+    mul-signed
+    shared-slice-read-signed
+    signed-requires
+    mul-from-bits
+    shared-slice-read-from-bits
+    from-bits-requires
+    mul-signed-2
+    shared-slice-read-signed-2
+    signed-requires-2
+    entry-of-requires
+    enum-known-made
+    enum-told
+    clear-requires
+    same-length
+    returns
+    mul-put-entry
+    mul-put-entry-2
+    shared-slice-read-put-entry
+    put-entry-requires
+    add-k
+    loop-less
+    loop-again
+    clear-requires-2
+    same-length-2
+    returns-2
+    cast-t36
+    tracking-error-requires
+    same-length-3
+    returns-3)

@@ -1,0 +1,137 @@
+-- What the code keeps in its arrays: the symbols' numbers in symbol order, and what was last said of each. No entry's promise cites it.
+-- Assumes nothing.
+use Prim.Native.Nat.{ℕ, zero, suc, _+_, _-_, _*_, _^_, _%_, _/_, _≤_, _<_}
+use mathlib.Core.Path.{_≡_}
+use mathlib.Core.List.{List, [], _∷_}
+use mathlib.Core.Bool.{Bool, true, cond, _&&_}
+use lib.Dec.{eqb, ltb}
+use lib.Count.{leadingZeros}
+use lib.IntN.{ℤ, pos, negsuc, subℕ, _*ℤ_}
+use lib.Ieee.{Float, binary64, ofBits}
+use lib.ListN.{length, take, getD, replicate}
+use mir.Syntax.{w64}
+use mir.Val.{toZ}
+use Rattle.symbol.specs.declared.Symbol.{Symbol}
+use Rattle.wire.specs.declared.layout.Layout.the-variants.{Sound}
+use Rattle.drift.specs.Rows.{rowsLayout}
+use Rattle.drift.specs.Symbols.{sortedWith}
+use Rattle.drift.specs.Entry.{Line, fits64, needed, actualWeight, entryOf, entryFits}
+use Rattle.drift.specs.declared.entry.Made.{Made}
+use Rattle.drift.specs.declared.entry.Made.the-variants as M
+use Rattle.drift.specs.declared.entry.Weight.{Weight}
+use Rattle.drift.specs.declared.entry.Weight.the-variants as W
+use Rattle.drift.specs.declared.whole.Whole.{Whole}
+use Rattle.drift.specs.declared.whole.Whole.the-variants as Z
+
+-- ---- answers
+abbrev pub wholeOf : ℤ → Whole
+wholeOf z = cond (fits64 z) (Z.Is z) Z.Over
+
+unfoldable pub weightAnswer : ℤ → ℤ → ℤ → Weight
+weightAnswer quantity price equity =
+    cond (cond (needed price equity) (fits64 (quantity *ℤ price)) true) (W.Is (actualWeight quantity price equity)) W.Over
+
+unfoldable pub madeOf : ℤ → Float → ℤ → ℤ → Made
+madeOf quantity weight price equity = cond (entryFits quantity weight price equity) (M.Is (entryOf quantity weight price equity)) M.OutOfRange
+
+-- ---- a symbol's number with its n bytes the other way round: symbols are in order as these numbers are
+unfoldable pub swapped : ℕ → ℕ → ℕ
+swapped zero x = 0
+swapped (suc n) x = x % 256 * 256 ^ n + swapped n (x / 256)
+
+abbrev pub key : ℕ → ℕ
+key x = swapped 8 x
+
+abbrev pub keyFirst : ℕ → ℕ → Bool
+keyFirst x y = ltb (key x) (key y)
+
+-- the symbol of a number: the bytes up to the last that is not 0
+abbrev pub lenOf : ℕ → ℕ
+lenOf x = (71 - leadingZeros 64 x) / 8
+
+abbrev pub symbolAt : ℕ → Symbol
+symbolAt x = record { word = x; len = lenOf x }
+
+-- ---- a list in order by a number of each element, each number above the one before
+pub data Over {A : Type 0} (f : A → ℕ) (m : ℕ) : List A → Type 0 where
+  none : Over f m []
+  more : {x : A} {xs : List A} → m < f x → Over f m xs → Over f m (x ∷ xs)
+
+pub data Rising {A : Type 0} (f : A → ℕ) : List A → Type 0 where
+  none : Rising f []
+  more : {x : A} {xs : List A} → Over f (f x) xs → Rising f xs → Rising f (x ∷ xs)
+
+-- the place of x among the first n
+pub record Place (ws : List ℕ) (n x p : ℕ) : Type 0 where
+  pub most : p ≤ n
+  pub below : 0 < p → key (getD ws (p - 1) 0) < key x
+  pub above : p < n → key x ≤ key (getD ws p 0)
+
+-- whether it stands there
+abbrev pub found : List ℕ → ℕ → ℕ → ℕ → Bool
+found ws n p x = ltb p n && eqb (key (getD ws p 0)) (key x)
+
+unfoldable pub wordsOf : List (Symbol × ℕ) → List ℕ
+wordsOf [] = []
+wordsOf (r ∷ rs) = r .0 .word ∷ wordsOf rs
+
+pub record Gathered (ws : List ℕ) (n : ℕ) (rows : List (Symbol × ℕ)) (after : List ℕ) (r : ℕ) : Type 0 where
+  pub most : r ≤ n + length rows
+  pub sorted : take r after ≡ sortedWith keyFirst (take n ws) (wordsOf rows)
+  pub rising : Rising key (take r after)
+
+-- ---- what was last said of a symbol's number
+unfoldable pub lastBits : ℕ → ℕ → List (Symbol × ℕ) → ℕ
+lastBits b x [] = b
+lastBits b x (r ∷ rs) = lastBits (cond (eqb (key (r .0 .word)) (key x)) (r .1) b) x rs
+
+pub record Marked (ws : List ℕ) (n x bits : ℕ) (at after : List ℕ) : Type 0 where
+  pub each : (k : ℕ) → k < n → getD after k 0 ≡ cond (eqb (key x) (key (getD ws k 0))) bits (getD at k 0)
+
+pub record Noted (ws : List ℕ) (n : ℕ) (rows : List (Symbol × ℕ)) (at after : List ℕ) : Type 0 where
+  pub each : (k : ℕ) → k < n → getD after k 0 ≡ lastBits (getD at k 0) (getD ws k 0) rows
+
+-- ---- the lines in the arrays
+abbrev pub lineAt : List ℕ → List ℕ → List ℕ → List ℕ → ℕ → Line
+lineAt ws qs ts ps k =
+    record {
+      symbol = symbolAt (getD ws k 0);
+      quantity = toZ w64 (getD qs k 0);
+      weight = ofBits binary64 (getD ts k 0);
+      price = toZ w64 (getD ps k 0);
+    }
+
+-- f k and n - 1 behind it
+unfoldable pub run : {A : Type 0} → (ℕ → A) → ℕ → ℕ → List A
+run f k zero = []
+run f k (suc n) = f k ∷ run f (k + 1) n
+
+abbrev pub linesAt : List ℕ → List ℕ → List ℕ → List ℕ → ℕ → List Line
+linesAt ws qs ts ps n = run (lineAt ws qs ts ps) 0 n
+
+-- ---- what the code that fills the arrays and reads them is given: lists that are sound, arrays of 2,048 that are zero, n lines
+pub record SoundLists (positions targets prices : List ℕ) : Type 0 where
+  pub held : rowsLayout 32 positions ≡ Sound
+  pub wanted : rowsLayout 24 targets ≡ Sound
+  pub priced : rowsLayout 24 prices ≡ Sound
+
+pub record Blank (ws qs ts ps : List ℕ) : Type 0 where
+  pub words : ws ≡ replicate 2048 0
+  pub quantities : qs ≡ replicate 2048 0
+  pub weights : ts ≡ replicate 2048 0
+  pub costs : ps ≡ replicate 2048 0
+
+pub record Filled (n : ℕ) (ws qs ts ps : List ℕ) : Type 0 where
+  pub most : n ≤ 2048
+  pub words : length ws ≡ 2048
+  pub quantities : length qs ≡ 2048
+  pub weights : length ts ≡ 2048
+  pub costs : length ps ≡ 2048
+
+-- ---- a sum of i64s, each 2 ^ 63 more than it is
+abbrev pub raised : ℤ → ℕ
+raised (pos n) = 2 ^ 63 + n
+raised (negsuc n) = 2 ^ 63 - suc n
+
+abbrev pub lowered : ℕ → ℕ → Whole
+lowered s n = wholeOf (subℕ s (n * 2 ^ 63))

@@ -1,0 +1,6 @@
+pub mod Rows
+pub mod Symbols
+pub mod Entry
+pub mod Report
+pub mod Value
+pub mod Code

@@ -1,0 +1,133 @@
+// Symbols as numbers in order, in an array whose first n elements are taken, and what was last said of each in an array beside it.
+ghost use mathlib.Core.Path.{_≡_};
+ghost use Prim.Native.Nat.{_+_, _-_, _≤_, _<_, suc};
+ghost use mathlib.Core.List.{_++_};
+ghost use lib.ListN.{length, take, drop};
+ghost use Rattle.wire.specs.Table.{records};
+ghost use Rattle.drift.specs.Rows.{rowOf};
+ghost use Rattle.drift.specs.Symbols.{inserted};
+ghost use Rattle.drift.specs.Code.{swapped, key, keyFirst, Rising, Place, found, Gathered, Marked, Noted, lenOf};
+
+// The four low bytes of x the other way round.
+fn four(x: u64) -> u64
+    ensures { λ r. ⌜ r ≡ swapped 4 x ⌝ }
+{
+    x % 256 * 0x100_0000
+        + (x / 0x100 % 256 * 0x1_0000 + (x / 0x1_0000 % 256 * 0x100 + x / 0x100_0000 % 256))
+}
+
+// The bytes of a symbol's number the other way round.
+pub fn key_of(x: u64) -> u64
+    ensures { λ r. ⌜ r ≡ key x ⌝ }
+{
+    four(x) * 0x1_0000_0000 + four(x / 0x1_0000_0000)
+}
+
+// The length of the symbol that has the number x.
+pub fn len_of(x: u64) -> u64
+    ensures { λ r. ⌜ r ≡ lenOf x ⌝ }
+{
+    (71 - u64::leading_zeros(x) as u64) / 8
+}
+
+// Where x stands, or would stand, among the first n: by halves.
+fn place(words: &[u64], n: usize, x: u64) -> usize
+    requires { ⌜ n ≤ length (now words) ⌝ }
+    ensures { λ r. ⌜ Place (now (words .entry)) n x r ⌝ }
+{
+    let k = key_of(x);
+    let mut low = 0;
+    let mut high = n;
+    while low < high {
+        let mid = low + (high - low) / 2;
+        if key_of(words[mid]) < k {
+            low = mid + 1;
+        } else {
+            high = mid;
+        }
+    }
+    low
+}
+
+// Whether x stands at p.
+fn has(words: &[u64], n: usize, p: usize, x: u64) -> bool
+    requires { ⌜ n ≤ length (now words) ⌝ }
+    ensures { λ r. ⌜ r ≡ found (now (words .entry)) n p x ⌝ }
+{
+    if p < n {
+        key_of(words[p]) == key_of(x)
+    } else {
+        false
+    }
+}
+
+// Moves the elements from p up to n, excluding it, one place up.
+fn open(words: &mut [u64], p: usize, n: usize)
+    requires { ⌜ p ≤ n ⌝ ∗ ⌜ n < length (now words) ⌝ }
+    ensures { λ _. ⌜ now (words .exit) ≡ take (suc p) (now (words .entry)) ++ (take (n - p) (drop p (now (words .entry))) ++ drop (suc n) (now (words .entry))) ⌝ }
+{
+    let mut j = n;
+    while p < j {
+        words[j] = words[j - 1];
+        j -= 1;
+    }
+}
+
+// x put in its place among the first n; the answer is how many are taken then.
+fn insert(words: &mut [u64], n: usize, x: u64) -> usize
+    requires { ⌜ n < length (now words) ⌝ ∗ ⌜ Rising key (take n (now words)) ⌝ }
+    ensures { λ r. ⌜ (r ≤ n + 1) × (take r (now (words .exit)) ≡ inserted keyFirst x (take n (now (words .entry)))) ⌝ }
+{
+    let p = place(words, n, x);
+    if has(words, n, p, x) {
+        return n;
+    }
+    open(words, p, n);
+    words[p] = x;
+    n + 1
+}
+
+// The symbol of each row put in its place.
+pub fn gather(list: &[u8], width: usize, count: usize, words: &mut [u64], n: usize) -> usize
+    requires { ⌜ width ≤ 32 ⌝ ∗ ⌜ count ≤ 1024 ⌝ ∗ ⌜ n + count ≤ length (now words) ⌝ ∗ ⌜ Rising key (take n (now words)) ⌝ }
+    ensures { λ r. ⌜ Gathered (now (words .entry)) n (records rowOf width count (now (list .entry))) (now (words .exit)) r ⌝ }
+{
+    let mut taken = n;
+    let mut i = 0;
+    while i < count {
+        taken = insert(words, taken, wire::u64_at(list, width * i));
+        i += 1;
+    }
+    taken
+}
+
+// What a row says of its symbol, where that is among the first n.
+fn note(words: &[u64], n: usize, x: u64, bits: u64, values: &mut [u64])
+    requires { ⌜ n ≤ length (now words) ⌝ ∗ ⌜ n ≤ length (now values) ⌝ ∗ ⌜ Rising key (take n (now words)) ⌝ }
+    ensures { λ _. ⌜ Marked (now (words .entry)) n x bits (now (values .entry)) (now (values .exit)) ⌝ }
+{
+    let p = place(words, n, x);
+    if has(words, n, p, x) {
+        values[p] = bits;
+    }
+}
+
+// What is last said of each of the first n symbols: the eight bytes at 16 of its last row.
+pub fn last_values(
+    list: &[u8],
+    width: usize,
+    count: usize,
+    words: &[u64],
+    n: usize,
+    values: &mut [u64],
+)
+    requires { ⌜ width ≤ 32 ⌝ ∗ ⌜ count ≤ 1024 ⌝ ∗ ⌜ n ≤ length (now words) ⌝ ∗ ⌜ n ≤ length (now values) ⌝ ∗ ⌜ Rising key (take n (now words)) ⌝ }
+    ensures { λ _. ⌜ Noted (now (words .entry)) n (records rowOf width count (now (list .entry))) (now (values .entry)) (now (values .exit)) ⌝ }
+{
+    let mut i = 0;
+    while i < count {
+        let row = wire::from(list, width * i);
+        note(words, n, wire::u64_of(row), wire::u64_at(row, 16), values);
+        i += 1;
+    }
+}

@@ -1,0 +1,4 @@
+pub mod Digits
+pub mod Names
+pub mod Examples
+pub mod Behind

@@ -1,0 +1,53 @@
+-- `lines::put_checkpoint_name`: the name is cut out of the table of names.
+use mathlib.Core.Path.{_∙_}
+use borrow.Author.Needs.{needs}
+use native.Mathlib.Omega.{arith}
+use Rattle.checkpoint.proofs.Names.{number-within}
+use Rattle.lines.proofs.Names.{name-at}
+use Rattle.lines.proofs.put_checkpoint_name.Statement.{statement}
+use Rattle.lines.proofs.put_checkpoint_name.Tie as tie
+
+name-length-requires : tie.Need-name-length-requires
+name-length-requires c κs = search needs
+
+number-requires : tie.Need-number-requires
+number-requires c κs = search needs
+
+cast-first : tie.Need-cast-first
+cast-first c = search needs
+
+sub-first : tie.Need-sub-first
+sub-first c = omega (arith, number-within (c .before .before .before .before .args .k))
+
+mul-first : tie.Need-mul-first
+mul-first c = search needs
+
+part-requires : tie.Need-part-requires
+part-requires c κs = search needs
+
+copy-requires : tie.Need-copy-requires
+copy-requires c κs = search needs
+
+same-length : tie.Need-same-length
+same-length c = search needs
+
+returns : tie.Need-returns
+returns c =
+    let e = c .before .before .before .before .before .before .before .name-length .ensures in (
+      e,
+      c .before .before .copy .ensures ∙ rw (c .before .before .before .part .ensures, e, c .before .before .before .before .before .before .number .ensures, name-at (c .before .before .before .before .before .before .before .before .before .before .args .k)),
+    )
+
+pub put-checkpoint-name-spec : {M : Type 1} → statement M
+put-checkpoint-name-spec =
+    tie.close
+    (tie.spec
+    name-length-requires
+    number-requires
+    cast-first
+    sub-first
+    mul-first
+    part-requires
+    copy-requires
+    same-length
+    returns)

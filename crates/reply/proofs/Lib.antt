@@ -1,0 +1,5 @@
+pub mod KindLines
+pub mod Compared
+pub mod Room
+pub mod ReplyExamples
+pub mod Fits

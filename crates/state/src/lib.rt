@@ -1,7 +1,6 @@
 // Equality of two recovered states, each with its book: marks except time, positions and orders in order, texts by bytes.
 //
 // `specs/State.antt` has what is read of a state and the refusals: 1 of either book, then 2 of a book or of lent records.
-<<<<<<< HEAD
 ghost use mathlib.Core.Path.{_≡_};
 ghost use Rattle.records.specs.Record.{ordersIn, positionsIn};
 ghost use Rattle.state.specs.State.{sameState, statesEqual};
@@ -12,8 +11,6 @@ mod lent;
 mod lists;
 mod orders;
 mod run;
-=======
->>>>>>> roundentry
 
 // Whether the states are equal, or refusals 1 and 2.
 pub enum Equality {
@@ -21,7 +18,6 @@ pub enum Equality {
     Oversize,
     Broken,
 }
-<<<<<<< HEAD
 
 // Whether two states are equal, each with the text of its book: s and t, marks m and n, orders os and ps, positions xs and ys.
 fn same_state(
@@ -80,5 +76,3 @@ pub fn states_equal(
         Layout::Broken => Equality::Broken,
     }
 }
-=======
->>>>>>> roundentry

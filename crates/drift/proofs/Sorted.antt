@@ -3,21 +3,27 @@
 use Prim.Native.Nat.{ℕ, _<_}
 use mathlib.Core.Path.{_≡_, refl, sym, ap, _∙_}
 use mathlib.Core.Bool.{Bool, true, false, cond, _||_}
-use mathlib.Core.List.{List, [], _∷_}
+use mathlib.Core.List.{List, [], _∷_, _++_}
 use native.Mathlib.Omega.{arith}
 use borrow.Author.Tests.{ltb-false, lt-ltb}
+use lib.Ieee.{binary64, ofBits}
 use lib.ListN.{length, getD}
+use mir.Syntax.{w64}
+use mir.Val.{toZ}
+use Rattle.wire.specs.declared.layout.Layout.the-variants.{Sound}
+use Rattle.wire.proofs.Written.{Bytes}
 use Rattle.wire.proofs.Records.{Each, none, more}
 use Rattle.symbol.specs.Symbol.{sameSymbol, before}
 use Rattle.symbol.specs.declared.Symbol.{Symbol}
 use Rattle.records.specs.Search.{anyWhere}
-use Rattle.drift.specs.Symbols.{inserted, sortedWith, symbolsOf}
+use Rattle.drift.specs.Rows.{rowsIn, heldIn, targetsIn, rowsLayout}
+use Rattle.drift.specs.Symbols.{keys, inserted, sortedWith, symbolsOf}
 use Rattle.drift.specs.Code.{key, symbolAt, Rising}
 use Rattle.drift.specs.Code as Code
 use Rattle.drift.proofs.Keys.{same-key}
-use Rattle.drift.proofs.Ordered.{rise, rising-sorted, each-inserted}
+use Rattle.drift.proofs.Ordered.{rise, rising-sorted, each-inserted, each-append}
 use Rattle.drift.proofs.Sized.{Sized, below, sized-at}
-use Rattle.drift.proofs.Looked.{before-key}
+use Rattle.drift.proofs.Looked.{sound-rows, keys-sized, before-key}
 
 -- ---- strictly in order
 pub in-order : (ys : List Symbol) (i j : ℕ) (d : Symbol) → i < j → j < length (symbolsOf ys) → before (getD (symbolsOf ys) i d) (getD (symbolsOf ys) j d) ≡ true
@@ -77,3 +83,13 @@ pub same-symbols : (ys : List Symbol) → Each Sized ys → (y : Symbol)
     → anyWhere (λ (z : Symbol). sameSymbol z y) (symbolsOf ys) ≡ anyWhere (λ (z : Symbol). sameSymbol z y) ys
 unfolding anyWhere
 same-symbols ys ps y = any-sorted (λ (z : Symbol). sameSymbol z y) [] ys none ps
+
+-- of sound lists: a symbol has a line where it is held or targeted
+pub sound-symbols : (p t : List ℕ) → Bytes p → Bytes t → rowsLayout 32 p ≡ Sound → rowsLayout 24 t ≡ Sound → (y : Symbol)
+    → anyWhere (λ (z : Symbol). sameSymbol z y) (symbolsOf (keys (heldIn p) ++ keys (targetsIn t)))
+    ≡ anyWhere (λ (z : Symbol). sameSymbol z y) (keys (heldIn p) ++ keys (targetsIn t))
+sound-symbols p t b c h k y =
+    same-symbols (keys (heldIn p) ++ keys (targetsIn t))
+    (each-append Sized (keys (heldIn p)) (keys (targetsIn t)) (keys-sized (toZ w64) (rowsIn 32 p) (sound-rows 32 p b h .1))
+    (keys-sized (ofBits binary64) (rowsIn 24 t) (sound-rows 24 t c k .1)))
+    y

@@ -8,10 +8,10 @@ ghost use Rattle.drift.specs.Rows.{heldIn, pricesIn, rowsLayout};
 ghost use Rattle.drift.specs.Report.{linesOf};
 ghost use Rattle.drift.specs.Value.{worth, worthOf, valueOf, heldOf};
 ghost use Rattle.drift.specs.Code.{linesAt, wholeOf, raised, lowered};
-use crate::report;
 use crate::rows;
 use crate::whole;
 use crate::whole::Whole;
+use crate::words;
 use wire::layout;
 use wire::layout::Layout;
 
@@ -105,7 +105,7 @@ fn value(positions: &[u8], prices: &[u8]) -> Held
     let mut quantities = [0u64; 2048];
     let mut weights = [0u64; 2048];
     let mut costs = [0u64; 2048];
-    let n = report::lines(
+    let n = words::lines(
         positions,
         wire::from(prices, prices.len()),
         prices,

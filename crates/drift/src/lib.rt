@@ -8,6 +8,6 @@
 pub mod entry;
 pub mod held;
 pub mod report;
-pub mod rows;
-pub mod whole;
-pub mod words;
+mod rows;
+mod whole;
+mod words;

@@ -1,10 +1,10 @@
 // `reconcile`: the entries of what is held against what is wanted, and the tracking error.
 ghost use mathlib.Core.Path.{_≡_};
-ghost use Prim.Native.Nat.{_≤_, max};
+ghost use Prim.Native.Nat.{max};
 ghost use lib.ListN.{length, replicate};
 ghost use Rattle.drift.specs.Rows.{heldIn, targetsIn, pricesIn};
 ghost use Rattle.drift.specs.Report.{linesOf, trackingError, Reported, listsLayout, driftOf, driftBytes};
-ghost use Rattle.drift.specs.Code.{linesAt, SoundLists, Blank, Filled};
+ghost use Rattle.drift.specs.Code.{linesAt, SoundLists, Filled};
 use crate::entry;
 use crate::entry::Made;
 use crate::rows;
@@ -25,29 +25,6 @@ pub enum Drift {
     OutOfRange,
     // Refusal 3.
     NoRoom,
-}
-
-// The symbols that are held or targeted and what was last said of each, in four arrays; how many they are. The arrays are zero before.
-pub fn lines(
-    positions: &[u8],
-    targets: &[u8],
-    prices: &[u8],
-    words: &mut [u64],
-    quantities: &mut [u64],
-    weights: &mut [u64],
-    costs: &mut [u64],
-) -> usize
-    requires { ⌜ SoundLists (now positions) (now targets) (now prices) ⌝ ∗ ⌜ Blank (now words) (now quantities) (now weights) (now costs) ⌝ }
-    ensures { λ r. ⌜ (r ≤ 2048) × (linesAt (now (words .exit)) (now (quantities .exit)) (now (weights .exit)) (now (costs .exit)) r ≡ linesOf (heldIn (now (positions .entry))) (targetsIn (now (targets .entry))) (pricesIn (now (prices .entry)))) ⌝ }
-{
-    let held = positions.len() / 32;
-    let wanted = targets.len() / 24;
-    let some = words::gather(positions, 32, held, words, 0);
-    let n = words::gather(targets, 24, wanted, words, some);
-    words::last_values(positions, 32, held, words, n, quantities);
-    words::last_values(targets, 24, wanted, words, n, weights);
-    words::last_values(prices, 24, prices.len() / 24, words, n, costs);
-    n
 }
 
 fn at_least_one(n: usize) -> u64
@@ -107,7 +84,7 @@ fn report(positions: &[u8], targets: &[u8], prices: &[u8], equity: i64, entries:
     let mut quantities = [0u64; 2048];
     let mut weights = [0u64; 2048];
     let mut costs = [0u64; 2048];
-    let n = lines(
+    let n = words::lines(
         positions,
         targets,
         prices,

@@ -4,9 +4,10 @@ ghost use Prim.Native.Nat.{_+_, _-_, _≤_, _<_, suc};
 ghost use mathlib.Core.List.{_++_};
 ghost use lib.ListN.{length, take, drop};
 ghost use Rattle.wire.specs.Table.{records};
-ghost use Rattle.drift.specs.Rows.{rowOf};
+ghost use Rattle.drift.specs.Rows.{rowOf, heldIn, targetsIn, pricesIn};
 ghost use Rattle.drift.specs.Symbols.{inserted};
-ghost use Rattle.drift.specs.Code.{swapped, key, keyFirst, Rising, Place, found, Gathered, Marked, Noted, lenOf};
+ghost use Rattle.drift.specs.Report.{linesOf};
+ghost use Rattle.drift.specs.Code.{swapped, key, keyFirst, Rising, Place, found, Gathered, Marked, Noted, lenOf, linesAt, SoundLists, Blank};
 
 // The four low bytes of x the other way round.
 fn four(x: u64) -> u64
@@ -17,7 +18,7 @@ fn four(x: u64) -> u64
 }
 
 // The bytes of a symbol's number the other way round.
-pub fn key_of(x: u64) -> u64
+fn key_of(x: u64) -> u64
     ensures { λ r. ⌜ r ≡ key x ⌝ }
 {
     four(x) * 0x1_0000_0000 + four(x / 0x1_0000_0000)
@@ -88,7 +89,7 @@ fn insert(words: &mut [u64], n: usize, x: u64) -> usize
 }
 
 // The symbol of each row put in its place.
-pub fn gather(list: &[u8], width: usize, count: usize, words: &mut [u64], n: usize) -> usize
+fn gather(list: &[u8], width: usize, count: usize, words: &mut [u64], n: usize) -> usize
     requires { ⌜ width ≤ 32 ⌝ ∗ ⌜ count ≤ 1024 ⌝ ∗ ⌜ n + count ≤ length (now words) ⌝ ∗ ⌜ Rising key (take n (now words)) ⌝ }
     ensures { λ r. ⌜ Gathered (now (words .entry)) n (records rowOf width count (now (list .entry))) (now (words .exit)) r ⌝ }
 {
@@ -113,14 +114,7 @@ fn note(words: &[u64], n: usize, x: u64, bits: u64, values: &mut [u64])
 }
 
 // What is last said of each of the first n symbols: the eight bytes at 16 of its last row.
-pub fn last_values(
-    list: &[u8],
-    width: usize,
-    count: usize,
-    words: &[u64],
-    n: usize,
-    values: &mut [u64],
-)
+fn last_values(list: &[u8], width: usize, count: usize, words: &[u64], n: usize, values: &mut [u64])
     requires { ⌜ width ≤ 32 ⌝ ∗ ⌜ count ≤ 1024 ⌝ ∗ ⌜ n ≤ length (now words) ⌝ ∗ ⌜ n ≤ length (now values) ⌝ ∗ ⌜ Rising key (take n (now words)) ⌝ }
     ensures { λ _. ⌜ Noted (now (words .entry)) n (records rowOf width count (now (list .entry))) (now (values .entry)) (now (values .exit)) ⌝ }
 {
@@ -130,4 +124,27 @@ pub fn last_values(
         note(words, n, wire::u64_of(row), wire::u64_at(row, 16), values);
         i += 1;
     }
+}
+
+// The symbols that are held or targeted and what was last said of each, in four arrays; how many they are. The arrays are zero before.
+pub fn lines(
+    positions: &[u8],
+    targets: &[u8],
+    prices: &[u8],
+    words: &mut [u64],
+    quantities: &mut [u64],
+    weights: &mut [u64],
+    costs: &mut [u64],
+) -> usize
+    requires { ⌜ SoundLists (now positions) (now targets) (now prices) ⌝ ∗ ⌜ Blank (now words) (now quantities) (now weights) (now costs) ⌝ }
+    ensures { λ r. ⌜ (r ≤ 2048) × (linesAt (now (words .exit)) (now (quantities .exit)) (now (weights .exit)) (now (costs .exit)) r ≡ linesOf (heldIn (now (positions .entry))) (targetsIn (now (targets .entry))) (pricesIn (now (prices .entry)))) ⌝ }
+{
+    let held = positions.len() / 32;
+    let wanted = targets.len() / 24;
+    let some = gather(positions, 32, held, words, 0);
+    let n = gather(targets, 24, wanted, words, some);
+    last_values(positions, 32, held, words, n, quantities);
+    last_values(targets, 24, wanted, words, n, weights);
+    last_values(prices, 24, prices.len() / 24, words, n, costs);
+    n
 }

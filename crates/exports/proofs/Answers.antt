@@ -11,6 +11,7 @@ use borrow.Author.Tests.{lt-ltb, le-ltb}
 use Rattle.wire.specs.Le.{bytesOf}
 use Rattle.types.specs.declared.fixed.Fixed.{Fixed}
 use Rattle.types.specs.declared.fixed.Fixed.the-variants.{Value, NotFinite, OutOfRange}
+use Rattle.exports.specs.Answer.{roomNumber}
 use Rattle.exports.specs.TypesEntries.{refusalIn, bytesIn}
 
 -- the number k and the bytes s are the answer
@@ -21,17 +22,17 @@ pub carry : (room : ℕ) {r q : Fixed} {k : ℕ} {s t : List ℕ} → r ≡ q �
 carry room e f a = (a .0 ∙ ap (λ (r : Fixed). refusalIn r room) (sym e), f ∙ a .1 ∙ ap (λ (r : Fixed). bytesIn r room) (sym e))
 
 pub not-finite : (room : ℕ) → IsAnswer NotFinite room 9 (replicate room 0)
-unfolding refusalIn bytesIn
+unfolding roomNumber refusalIn bytesIn
 not-finite room = (refl, refl)
 
 pub out-of-range : (room : ℕ) → IsAnswer OutOfRange room 10 (replicate room 0)
-unfolding refusalIn bytesIn
+unfolding roomNumber refusalIn bytesIn
 out-of-range room = (refl, refl)
 
 pub no-room : (z : ℤ) (room : ℕ) → room < 8 → IsAnswer (Value z) room 3 (replicate room 0)
-unfolding refusalIn bytesIn
+unfolding roomNumber refusalIn bytesIn
 no-room z room h = (rw (lt-ltb room 8 h), rw (lt-ltb room 8 h))
 
 pub written : (z : ℤ) (room : ℕ) → 8 ≤ room → IsAnswer (Value z) room 0 (sets (replicate room 0) 0 (bytesOf 8 (ofZ w64 z)))
-unfolding refusalIn bytesIn
+unfolding roomNumber refusalIn bytesIn
 written z room h = (rw (le-ltb room 8 h), rw (le-ltb room 8 h))

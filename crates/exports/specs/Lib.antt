@@ -1,2 +1,4 @@
 pub mod Answer
+pub mod DriftAnswer
+pub mod RecoveryAnswer
 pub mod TypesEntries

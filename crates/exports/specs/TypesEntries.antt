@@ -2,7 +2,7 @@
 use Prim.Native.Nat.{ℕ}
 use mathlib.Core.List.{List}
 use mathlib.Core.Bool.{cond}
-use lib.Dec.{eqb, ltb}
+use lib.Dec.{eqb}
 use lib.ListN.{replicate}
 use lib.Seq.{sets}
 use mir.Syntax.{w64}
@@ -10,10 +10,12 @@ use mir.Val.{ofZ}
 use Rattle.wire.specs.Le.{bytesOf}
 use Rattle.types.specs.Fixed.{fixedRefusal, fixedValue}
 use Rattle.types.specs.declared.fixed.Fixed.{Fixed}
+use Rattle.exports.specs.Answer.{roomNumber}
 
 -- the refusal's number, 0 where there is none: 9 and 10, then 3 where there is no room for the value
 unfoldable pub refusalIn : Fixed → ℕ → ℕ
-refusalIn r room = cond (eqb (fixedRefusal r) 0) (cond (ltb room 8) 3 0) (fixedRefusal r)
+unfolding roomNumber
+refusalIn r room = roomNumber 8 (fixedRefusal r) room
 
 -- all bytes zero, but for the value in the first eight where nothing is refused
 unfoldable pub bytesIn : Fixed → ℕ → List ℕ

@@ -20,7 +20,7 @@ pub struct Numbers {
     pub b: u64,
 }
 
-fn layout_number(r: Layout) -> u32
+pub fn layout_number(r: Layout) -> u32
     ensures { λ n. ⌜ n ≡ layoutNumber r ⌝ }
 {
     match r {
@@ -122,14 +122,14 @@ fn window_numbers(w: Window) -> Numbers
 }
 
 // The number where there is no room for an answer.
-fn without_room(refusal: u32) -> u32
+pub fn without_room(refusal: u32) -> u32
     ensures { λ k. ⌜ k ≡ answerNumber refusal 0 ⌝ }
 {
     if refusal == 0 { 3 } else { refusal }
 }
 
 // Writes an answer and returns its number. An `answer` of less than sixteen bytes is refused by 3, after every other refusal.
-fn give(refusal: u32, a: u64, b: u64, answer: &mut [u8]) -> u32
+pub fn give(refusal: u32, a: u64, b: u64, answer: &mut [u8]) -> u32
     ensures { λ k. ⌜ (k ≡ answerNumber refusal (length (now (answer .entry)))) × (now (answer .exit) ≡ answerBytes a b (length (now (answer .entry)))) ⌝ }
 {
     wire::clear(answer);

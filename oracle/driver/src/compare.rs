@@ -3,11 +3,15 @@
 use std::collections::BTreeMap;
 use std::panic::{catch_unwind, AssertUnwindSafe};
 
-use oracle::doc01::book::{Cell, WINDOW};
-use oracle::doc01::Book;
-use oracle::generator::{self, Case, LogCase, Rng};
+use oracle::doc01::book::{Cell, WINDOW as WINDOW_CELL};
+use oracle::doc01::{Book, Marks};
+use oracle::generator::{self, Case, DriftCase, LogCase, RecordsCase, Rng};
+use oracle::judge;
 
-use crate::question::{Due, Fault, Question};
+use crate::entries::{
+    Due, Entry, ACTION, CHECK_BOOK, CHECK_SHEET, COMPARE, DRIFT, EQUAL, HELD, MAX, RECOVER, REPLY, STEP, UNJUDGED, VERDICT, WINDOW,
+};
+use crate::question::{Fault, Question, Tally, FAULTS};
 use crate::smallest::{print, smallest};
 
 /// Copies of a book and of a sheet that are altered here, for each case of the kind `damaged`.
@@ -17,27 +21,48 @@ const COPIES: usize = 4;
 pub struct Counts {
     cases: u64,
     by: BTreeMap<String, u64>,
-    /// Calls of the library, bytes of answers compared.
-    tally: (u64, u64),
+    tally: Tally,
+}
+
+fn first(due: &Due) -> u64 {
+    due.answer.get(..8).map_or(0, |n| u64::from_le_bytes(n.try_into().expect("eight bytes")))
+}
+
+fn second(due: &Due) -> u64 {
+    due.answer.get(8..16).map_or(0, |n| u64::from_le_bytes(n.try_into().expect("eight bytes")))
 }
 
 impl Counts {
-    fn count(&mut self, question: &Question, due: Due) {
-        let what = match (question, due.refusal) {
-            (Question::Verdict(_), r @ (4 | 5)) => format!("{r}, with its event"),
-            (Question::Verdict(_), r @ (6 | 7)) => format!("{r}, checkpoint {}", due.b),
-            (Question::Max(_), 0) => format!("0, {}", if due.a > 0 { "a number" } else { "none" }),
-            (Question::Window(..), 0) => format!("0, {}", if due.a > 0 { "complete" } else { "not complete" }),
+    fn count(&mut self, entry: &'static Entry, due: &Due) {
+        let what = match (entry.name, due.refusal) {
+            ("desk_validate_checkpoints", r @ (4 | 5)) => format!("{r}, with its event"),
+            ("desk_validate_checkpoints", r @ (6 | 7)) => format!("{r}, checkpoint {}", second(due)),
+            ("desk_max_checkpoint_sequence", 0) => format!("0, {}", if first(due) > 0 { "a number" } else { "none" }),
+            ("desk_check_window_already_complete", 0) => format!("0, {}", if first(due) > 0 { "complete" } else { "not complete" }),
+            ("desk_reconstruct_state", 0) => {
+                let action = u64::from_le_bytes(due.answer[192..200].try_into().expect("eight bytes"));
+                format!("0, {}", ["Restart", "Resume", "ManualReview"][action as usize])
+            }
+            ("desk_recovery_action", 0) => format!("0, {}", ["Restart", "Resume", "ManualReview"][first(due) as usize]),
+            ("desk_states_equal", 0) => format!("0, {}", if first(due) > 0 { "equal" } else { "unequal" }),
+            ("desk_compare_broker_state", 0) => format!("0, {}", if first(due) > 0 { "discrepancies" } else { "none" }),
+            ("desk_reply", 0) => {
+                let text = String::from_utf8_lossy(&due.outputs[0]).into_owned();
+                let line = text.lines().next().unwrap_or("").to_string();
+                if line.starts_with("verdict 0") { "accepted".into() } else { line.split(' ').take(2).collect::<Vec<_>>().join(" ") }
+            }
+            ("desk_step", 0) => format!("0, {}", if first(due) > 0 { "stepped" } else { "none left" }),
+            (_, UNJUDGED) => "not judged".into(),
             (_, r) => r.to_string(),
         };
-        *self.by.entry(format!("{}: {what}", question.entry())).or_default() += 1;
+        *self.by.entry(format!("{}: {what}", entry.name)).or_default() += 1;
     }
 
     pub fn print(&self) {
         for (what, many) in &self.by {
             println!("  {what}: {many}");
         }
-        println!("  calls of the library: {}, bytes of answers compared: {}", self.tally.0, self.tally.1);
+        println!("  calls of the library: {}, bytes of outputs compared: {}", self.tally.calls, self.tally.bytes);
     }
 }
 
@@ -67,7 +92,7 @@ fn windows(case: &LogCase) -> Vec<Vec<u8>> {
     let mut out = vec![case.window.clone(), Vec::new(), b"no such window".to_vec()];
     if let Ok(book) = Book::parse(&case.book) {
         for event in &book.events {
-            if let Cell::Text(text) = event.cells[WINDOW] {
+            if let Cell::Text(text) = event.cells[WINDOW_CELL] {
                 out.push(book.text_of(text).to_vec());
             }
         }
@@ -79,36 +104,87 @@ fn windows(case: &LogCase) -> Vec<Vec<u8>> {
     out
 }
 
-fn questions(kind: &str, case: &LogCase, rng: &mut Rng) -> Vec<Question> {
+fn of_log(kind: &str, case: &LogCase, rng: &mut Rng) -> Vec<Question> {
     let (book, sheet) = (&case.book, &case.sheet);
     let mut out = vec![
-        Question::Book(book.clone()),
-        Question::Sheet(sheet.clone()),
-        Question::Verdict(book.clone()),
-        Question::Max(book.clone()),
+        Question::new(&CHECK_BOOK, vec![book.clone()], vec![]),
+        Question::new(&CHECK_SHEET, vec![sheet.clone()], vec![]),
+        Question::new(&VERDICT, vec![book.clone()], vec![]),
+        Question::new(&MAX, vec![book.clone()], vec![]),
+        Question::new(&RECOVER, vec![book.clone()], vec![case.time as u64]).with_rooms(case.rooms[..2].to_vec()),
+        Question::new(&REPLY, vec![book.clone(), sheet.clone()], vec![]),
     ];
-    out.extend(windows(case).into_iter().map(|window| Question::Window(book.clone(), window)));
+    out.extend(windows(case).into_iter().map(|window| Question::new(&WINDOW, vec![book.clone(), window], vec![])));
+    if let Ok(said) = judge::reconstruct_state(book, case.time, usize::MAX, usize::MAX) {
+        let marks = said.marks.bytes();
+        out.push(Question::new(&ACTION, vec![marks.clone(), said.orders.clone()], vec![]));
+        let lent = vec![marks.clone(), said.orders.clone(), said.positions.clone(), sheet.clone()];
+        out.push(Question::new(&COMPARE, lent, vec![]).with_rooms(vec![case.rooms[2]]));
+        let state = [book.clone(), marks.clone(), said.orders.clone(), said.positions.clone()];
+        out.push(Question::new(&EQUAL, [state.clone(), state.clone()].concat(), vec![]));
+        let other = altered(rng, &said.orders);
+        out.push(Question::new(&EQUAL, [state.to_vec(), vec![book.clone(), altered(rng, &marks), other, said.positions]].concat(), vec![]));
+        out.push(Question::new(&ACTION, vec![altered(rng, &marks), altered(rng, &said.orders)], vec![]));
+    }
+    out.extend(steps(case, rng));
     if kind == "damaged" {
         for _ in 0..COPIES {
-            out.push(Question::Book(altered(rng, book)));
-            out.push(Question::Sheet(altered(rng, sheet)));
+            out.push(Question::new(&CHECK_BOOK, vec![altered(rng, book)], vec![]));
+            out.push(Question::new(&CHECK_SHEET, vec![altered(rng, sheet)], vec![]));
         }
     }
     out
 }
 
+/// A step from the marks before it, one from marks that are altered, one with a number past the end.
+fn steps(case: &LogCase, rng: &mut Rng) -> Vec<Question> {
+    let events = Book::parse(&case.book).map_or(0, |book| book.events.len());
+    let next = rng.below(events + 1);
+    let before = match next {
+        0 => Some(Marks::begin(case.time)),
+        _ => judge::step(&case.book, case.time, next - 1).ok().flatten(),
+    };
+    let marks = before.map_or_else(Vec::new, |m| m.bytes());
+    let lent = [marks.clone(), altered(rng, &marks), marks];
+    let numbers = [next as u64, next as u64, rng.pick(&[events as u64, events as u64 + 1, u32::MAX as u64])];
+    lent.into_iter().zip(numbers).map(|(marks, next)| Question::new(&STEP, vec![case.book.clone(), marks], vec![next])).collect()
+}
+
+fn of_records(case: &RecordsCase) -> Vec<Question> {
+    let sides = [&case.first, &case.second].map(|s| vec![s.book.clone(), s.marks.bytes(), s.orders.clone(), s.positions.clone()]);
+    let first = &sides[0];
+    vec![
+        Question::new(&ACTION, vec![first[1].clone(), first[2].clone()], vec![]),
+        Question::new(&COMPARE, vec![first[1].clone(), first[2].clone(), first[3].clone(), case.sheet.clone()], vec![]).with_rooms(vec![case.rooms[0]]),
+        Question::new(&EQUAL, sides.concat(), vec![]),
+        Question::new(&EQUAL, [first.clone(), first.clone()].concat(), vec![]),
+    ]
+}
+
+fn of_drift(case: &DriftCase) -> Vec<Question> {
+    let lists = vec![case.holdings.clone(), case.targets.clone(), case.prices.clone()];
+    vec![
+        Question::new(&DRIFT, lists, vec![case.equity as u64]).with_rooms(vec![case.room]),
+        Question::new(&HELD, vec![case.holdings.clone(), case.prices.clone()], vec![]),
+    ]
+}
+
 /// The first question of a case on which the two disagree.
 fn disagreement(kind: &str, seed: u64, number: u64, fault: Option<Fault>, counts: &mut Counts) -> Result<Option<Question>, String> {
-    let Some(Case::Log(case)) = generator::case(kind, seed, number) else {
-        return Err(format!("no kind of logs: {kind}"));
+    let rng = &mut Rng::new("altered", seed, number);
+    let questions = match generator::case(kind, seed, number) {
+        Some(Case::Log(case)) => of_log(kind, &case, rng),
+        Some(Case::Records(case)) => of_records(&case),
+        Some(Case::Drift(case)) => of_drift(&case),
+        _ => return Err(format!("no kind: {kind}")),
     };
     counts.cases += 1;
-    for question in questions(kind, &case, &mut Rng::new("altered", seed, number)) {
-        let due = question.due();
-        if question.differs(due, fault, &mut counts.tally).is_some() {
+    for question in questions {
+        let due = question.ample();
+        if question.differs(&due, fault, &mut counts.tally).is_some() {
             return Ok(Some(question));
         }
-        counts.count(&question, due);
+        counts.count(question.entry, &due);
     }
     Ok(None)
 }
@@ -137,16 +213,16 @@ pub fn compare(kind: &str, seed: u64, count: u64) -> Result<bool, String> {
 /// Whether the comparison sees a library that is wrong: one altered answer at a time.
 pub fn faults(kind: &str, seed: u64, count: u64) -> Result<bool, String> {
     let mut all = true;
-    for fault in crate::question::FAULTS {
+    for fault in FAULTS {
         let mut seen = None;
         for number in 0..count {
             if let Some(question) = disagreement(kind, seed, number, Some(fault), &mut Counts::default())? {
-                seen = Some((number, smallest(&question, Some(fault))));
+                seen = Some((number, question));
                 break;
             }
         }
         match seen {
-            Some((number, question)) => println!("{fault:?}: seen in case {number}, {}, smallest {} bytes", question.entry(), question.bytes().len()),
+            Some((number, question)) => println!("{fault:?}: seen in case {number}, {}", question.entry.name),
             None => {
                 println!("{fault:?}: NOT SEEN in {count} cases");
                 all = false;

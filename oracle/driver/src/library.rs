@@ -1,59 +1,68 @@
-//! The library's entries through its C boundary. Answers are lent as bytes that hold garbage, with garbage on both sides.
+//! The library's entries through its C boundary: slices go as a pointer and a length. Outputs are lent as bytes that hold garbage, with garbage on
+//! both sides.
 
-/// The lengths in bytes of the answers that are lent.
-pub const ROOMS: [usize; 6] = [0, 8, 15, 16, 17, 64];
 const GARBAGE: u8 = 0xa5;
 const BESIDE: usize = 32;
 
-extern "C" {
-    fn desk_check_book(book: *const u8, length: usize) -> u32;
-    fn desk_check_sheet(sheet: *const u8, length: usize) -> u32;
-    fn desk_validate_checkpoints(book: *const u8, length: usize, answer: *mut u8, room: usize) -> u32;
-    fn desk_max_checkpoint_sequence(book: *const u8, length: usize, answer: *mut u8, room: usize) -> u32;
-    fn desk_check_window_already_complete(
-        book: *const u8,
-        length: usize,
-        window: *const u8,
-        window_length: usize,
-        answer: *mut u8,
-        room: usize,
-    ) -> u32;
+/// Bytes lent to an entry for its output.
+pub struct Lent {
+    bytes: Vec<u8>,
+    room: usize,
 }
 
-/// What an entry returned and left in the lent bytes, and whether it wrote beside them.
-#[derive(Debug, Clone, PartialEq, Eq)]
-pub struct Answer {
-    pub number: u32,
-    pub bytes: Vec<u8>,
-    pub beside: bool,
+impl Lent {
+    pub fn new(room: usize) -> Lent {
+        Lent { bytes: vec![GARBAGE; BESIDE + room + BESIDE], room }
+    }
+
+    /// Bytes that the entry reads too.
+    pub fn holding(bytes: &[u8]) -> Lent {
+        let mut lent = Lent::new(bytes.len());
+        lent.bytes[BESIDE..BESIDE + bytes.len()].copy_from_slice(bytes);
+        lent
+    }
+
+    pub fn bytes(&self) -> &[u8] {
+        &self.bytes[BESIDE..BESIDE + self.room]
+    }
+
+    /// Whether a byte beside the lent ones was written.
+    pub fn beside(&self) -> bool {
+        self.bytes[..BESIDE].iter().chain(&self.bytes[BESIDE + self.room..]).any(|b| *b != GARBAGE)
+    }
 }
 
-fn lend(room: usize, call: impl FnOnce(*mut u8) -> u32) -> Answer {
-    let mut lent = vec![GARBAGE; BESIDE + room + BESIDE];
-    // Safe: the pointer is to `room` bytes of `lent`, which nothing else holds during the call.
-    let number = call(lent[BESIDE..].as_mut_ptr());
-    let beside = lent[..BESIDE].iter().chain(&lent[BESIDE + room..]).any(|b| *b != GARBAGE);
-    Answer { number, bytes: lent[BESIDE..BESIDE + room].to_vec(), beside }
+macro_rules! entry {
+    ($name:ident ( $($input:ident),* ; $($number:ident : $of:ty),* ; $($output:ident),* )) => {
+        // Safe: each pointer is to as many bytes as its length says, which nothing else holds during the call.
+        pub fn $name(inputs: &[Vec<u8>], numbers: &[u64], outputs: &mut [Lent]) -> u32 {
+            extern "C" {
+                fn $name($($input: *const u8, _: usize,)* $($number: $of,)* $($output: *mut u8, _: usize),*) -> u32;
+            }
+            let [$($input),*] = inputs else { panic!("inputs of {}", stringify!($name)) };
+            let [$($number),*] = *numbers else { panic!("numbers of {}", stringify!($name)) };
+            let [$($output),*] = outputs else { panic!("outputs of {}", stringify!($name)) };
+            unsafe {
+                $name(
+                    $($input.as_ptr(), $input.len(),)*
+                    $($number as $of,)*
+                    $($output.bytes[BESIDE..].as_mut_ptr(), $output.room),*
+                )
+            }
+        }
+    };
 }
 
-pub fn check_book(book: &[u8]) -> u32 {
-    unsafe { desk_check_book(book.as_ptr(), book.len()) }
-}
-
-pub fn check_sheet(sheet: &[u8]) -> u32 {
-    unsafe { desk_check_sheet(sheet.as_ptr(), sheet.len()) }
-}
-
-pub fn validate_checkpoints(book: &[u8], room: usize) -> Answer {
-    lend(room, |answer| unsafe { desk_validate_checkpoints(book.as_ptr(), book.len(), answer, room) })
-}
-
-pub fn max_checkpoint_sequence(book: &[u8], room: usize) -> Answer {
-    lend(room, |answer| unsafe { desk_max_checkpoint_sequence(book.as_ptr(), book.len(), answer, room) })
-}
-
-pub fn check_window_already_complete(book: &[u8], window: &[u8], room: usize) -> Answer {
-    lend(room, |answer| unsafe {
-        desk_check_window_already_complete(book.as_ptr(), book.len(), window.as_ptr(), window.len(), answer, room)
-    })
-}
+entry!(desk_check_book(book; ; ));
+entry!(desk_check_sheet(sheet; ; ));
+entry!(desk_validate_checkpoints(book; ; answer));
+entry!(desk_max_checkpoint_sequence(book; ; answer));
+entry!(desk_check_window_already_complete(book, window; ; answer));
+entry!(desk_reconstruct_state(book; time: i64; orders, positions, answer));
+entry!(desk_step(book; next: u32; marks, answer));
+entry!(desk_recovery_action(marks, orders; ; answer));
+entry!(desk_states_equal(book_a, marks_a, orders_a, positions_a, book_b, marks_b, orders_b, positions_b; ; answer));
+entry!(desk_compare_broker_state(marks, orders, positions, sheet; ; report, answer));
+entry!(desk_reply(book, sheet; ; text, answer));
+entry!(desk_reconcile(positions, targets, prices; equity: i64; entries, answer));
+entry!(desk_held_value(positions, prices; ; answer));

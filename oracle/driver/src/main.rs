@@ -1,6 +1,7 @@
 //! The library and the original side by side: `oracle/compare`.
 
 mod compare;
+mod entries;
 mod library;
 mod question;
 mod smallest;
@@ -11,7 +12,7 @@ use std::process::ExitCode;
 const USAGE: &str = "usage: compare KIND SEED COUNT         compares COUNT cases of a kind; stops at the first disagreement
        compare faults KIND SEED COUNT  shows that wrong answers would be seen
        compare time                    times the largest book
-kinds: runs wild damaged limits sheets queries";
+kinds: runs wild damaged limits sheets queries records drift";
 
 fn number(text: &str) -> Result<u64, String> {
     text.parse().map_err(|_| format!("no number: {text}"))

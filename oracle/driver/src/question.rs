@@ -1,26 +1,26 @@
 //! One question put to both: the library through its boundary, and the judge.
 
-use oracle::doc01::{Book, Sheet};
-use oracle::judge;
+use crate::entries::{Due, Entry, UNJUDGED};
+use crate::library::Lent;
 
-use crate::library::{self, Answer, ROOMS};
+/// Room enough for every output of a case.
+const AMPLE: usize = 1 << 20;
 
-/// An entry with its inputs.
-#[derive(Debug, Clone)]
-pub enum Question {
-    Book(Vec<u8>),
-    Sheet(Vec<u8>),
-    Verdict(Vec<u8>),
-    Max(Vec<u8>),
-    Window(Vec<u8>, Vec<u8>),
+#[derive(Clone)]
+pub struct Question {
+    pub entry: &'static Entry,
+    pub inputs: Vec<Vec<u8>>,
+    pub numbers: Vec<u64>,
+    /// Rooms to try beside those around the exact one.
+    pub rooms: Vec<Vec<usize>>,
 }
 
-/// The judge's answer: the refusal's number and two numbers.
-#[derive(Debug, Clone, Copy, PartialEq, Eq)]
-pub struct Due {
-    pub refusal: u32,
-    pub a: u64,
-    pub b: u64,
+/// What an entry returned and left in the lent bytes, and whether it wrote beside them.
+#[derive(Debug, Clone, PartialEq, Eq)]
+pub struct Answer {
+    pub number: u32,
+    pub outputs: Vec<Vec<u8>>,
+    pub beside: bool,
 }
 
 /// A wrong library, to show that the comparison sees it: the answer altered after the call.
@@ -28,137 +28,153 @@ pub struct Due {
 pub enum Fault {
     BrokenIsSound,
     OversizeIsBroken,
-    EventFromZero,
-    NextCheckpoint,
-    HighestLess,
-    WindowUnmarked,
-    LastByteKept,
     RoomUntested,
+    LastByteKept,
+    FirstBitOther,
+    RefusedNotCleared,
 }
 
-pub const FAULTS: [Fault; 8] = [
+pub const FAULTS: [Fault; 6] = [
     Fault::BrokenIsSound,
     Fault::OversizeIsBroken,
-    Fault::EventFromZero,
-    Fault::NextCheckpoint,
-    Fault::HighestLess,
-    Fault::WindowUnmarked,
-    Fault::LastByteKept,
     Fault::RoomUntested,
+    Fault::LastByteKept,
+    Fault::FirstBitOther,
+    Fault::RefusedNotCleared,
 ];
 
-fn layout<T>(parsed: Result<T, u32>) -> Due {
-    Due { refusal: parsed.err().unwrap_or(0), a: 0, b: 0 }
+/// What is counted: calls of the library, bytes of outputs compared.
+#[derive(Default, Clone, Copy)]
+pub struct Tally {
+    pub calls: u64,
+    pub bytes: u64,
 }
 
 impl Question {
-    pub fn entry(&self) -> &'static str {
-        match self {
-            Question::Book(_) => "desk_check_book",
-            Question::Sheet(_) => "desk_check_sheet",
-            Question::Verdict(_) => "desk_validate_checkpoints",
-            Question::Max(_) => "desk_max_checkpoint_sequence",
-            Question::Window(..) => "desk_check_window_already_complete",
-        }
+    pub fn new(entry: &'static Entry, inputs: Vec<Vec<u8>>, numbers: Vec<u64>) -> Question {
+        Question { entry, inputs, numbers, rooms: Vec::new() }
     }
 
-    /// The book or the sheet.
-    pub fn bytes(&self) -> &[u8] {
-        match self {
-            Question::Book(b) | Question::Sheet(b) | Question::Verdict(b) | Question::Max(b) | Question::Window(b, _) => b,
-        }
+    pub fn with_rooms(mut self, rooms: Vec<usize>) -> Question {
+        self.rooms.push(rooms);
+        self
     }
 
-    pub fn bytes_mut(&mut self) -> &mut Vec<u8> {
-        match self {
-            Question::Book(b) | Question::Sheet(b) | Question::Verdict(b) | Question::Max(b) | Question::Window(b, _) => b,
-        }
+    pub fn due(&self, rooms: &[usize]) -> Due {
+        (self.entry.due)(&self.inputs, &self.numbers, rooms)
     }
 
-    pub fn due(&self) -> Due {
-        match self {
-            Question::Book(book) => layout(Book::parse(book)),
-            Question::Sheet(sheet) => layout(Sheet::parse(sheet)),
-            Question::Verdict(book) => {
-                let (refusal, event, checkpoint) = judge::validate_checkpoints_from_parsed(book);
-                Due { refusal, a: event as u64, b: checkpoint as u64 }
+    /// The judge's answer with ample room.
+    pub fn ample(&self) -> Due {
+        self.due(&vec![AMPLE; self.entry.outputs])
+    }
+
+    /// The bytes that are altered in place.
+    fn held(&self) -> Option<&Vec<u8>> {
+        self.inputs.last().filter(|_| self.entry.held)
+    }
+
+    fn asked(&self, rooms: &[usize]) -> Answer {
+        let mut lent: Vec<Lent> = rooms.iter().map(|room| Lent::new(*room)).collect();
+        let mut inputs = &self.inputs[..];
+        if let Some(held) = self.held() {
+            lent[0] = Lent::holding(held);
+            inputs = &inputs[..inputs.len() - 1];
+        }
+        let number = (self.entry.call)(inputs, &self.numbers, &mut lent);
+        Answer { number, beside: lent.iter().any(Lent::beside), outputs: lent.iter().map(|l| l.bytes().to_vec()).collect() }
+    }
+
+    /// The rooms of the outputs and of the answer: each around the exact one, the others exact; then those that were asked for.
+    fn all_rooms(&self, due: &Due) -> Vec<Vec<usize>> {
+        let mut exact: Vec<usize> = (0..self.entry.outputs).map(|i| due.outputs.get(i).map_or(0, Vec::len)).collect();
+        if let Some(held) = self.held() {
+            exact[0] = held.len();
+        }
+        let answer = |rooms: &[usize], last: usize| match self.entry.answer {
+            0 => rooms.to_vec(),
+            _ => [rooms, &[last]].concat(),
+        };
+        let mut out = vec![answer(&exact, self.entry.answer)];
+        for (i, room) in exact.iter().enumerate().filter(|_| !self.entry.held) {
+            for other in [0, room / 2, room.wrapping_sub(1), room + 1, room + 64].into_iter().filter(|n| *n <= AMPLE && n != room) {
+                let mut rooms = exact.clone();
+                rooms[i] = other;
+                out.push(answer(&rooms, self.entry.answer));
             }
-            Question::Max(book) => match judge::max_checkpoint_sequence(book) {
-                Ok(number) => Due { refusal: 0, a: number, b: 0 },
-                Err(refusal) => Due { refusal, a: 0, b: 0 },
-            },
-            Question::Window(book, window) => match judge::check_window_already_complete(book, window) {
-                Ok(Some(number)) => Due { refusal: 0, a: 1, b: number },
-                Ok(None) => Due { refusal: 0, a: 0, b: 0 },
-                Err(refusal) => Due { refusal, a: 0, b: 0 },
-            },
         }
+        if self.entry.answer > 0 {
+            for last in [0, self.entry.answer / 2, self.entry.answer - 1, self.entry.answer + 1, self.entry.answer + 48] {
+                out.push(answer(&exact, last));
+            }
+        }
+        out.extend(self.rooms.iter().map(|rooms| answer(rooms, self.entry.answer)));
+        out
     }
 
-    /// The rooms of the answer; a layout's answer is its number alone.
-    fn rooms(&self) -> &'static [usize] {
-        match self {
-            Question::Book(_) | Question::Sheet(_) => &[],
-            _ => &ROOMS,
+    /// The first rooms in which the library's answer is another, with the due answer and the library's.
+    pub fn differs(&self, ample: &Due, fault: Option<Fault>, tally: &mut Tally) -> Option<(Vec<usize>, Answer, Answer)> {
+        if ample.refusal == UNJUDGED {
+            return None;
         }
-    }
-
-    fn asked(&self, room: usize) -> Answer {
-        let alone = |number| Answer { number, bytes: Vec::new(), beside: false };
-        match self {
-            Question::Book(book) => alone(library::check_book(book)),
-            Question::Sheet(sheet) => alone(library::check_sheet(sheet)),
-            Question::Verdict(book) => library::validate_checkpoints(book, room),
-            Question::Max(book) => library::max_checkpoint_sequence(book, room),
-            Question::Window(book, window) => library::check_window_already_complete(book, window, room),
-        }
-    }
-
-    /// The first room in which the library's answer is another, with the due answer and the library's. Counts the calls and the bytes compared.
-    pub fn differs(&self, due: Due, fault: Option<Fault>, tally: &mut (u64, u64)) -> Option<(usize, Answer, Answer)> {
-        if self.rooms().is_empty() {
-            tally.0 += 1;
-            let due = Answer { number: due.refusal, bytes: Vec::new(), beside: false };
-            let answer = faulty(self.asked(0), 0, fault);
-            return (answer != due).then_some((0, due, answer));
-        }
-        for &room in self.rooms() {
-            tally.0 += 1;
-            tally.1 += room as u64;
-            let due = written(due, room);
-            let answer = faulty(self.asked(room), room, fault);
+        let mut last: Option<(Vec<usize>, Due)> = None;
+        for rooms in self.all_rooms(ample) {
+            tally.calls += 1;
+            tally.bytes += rooms.iter().sum::<usize>() as u64;
+            let outputs = &rooms[..self.entry.outputs];
+            let due = match &last {
+                Some((of, due)) if of == outputs => due.clone(),
+                _ => self.due_of(outputs, ample),
+            };
+            last = Some((outputs.to_vec(), due.clone()));
+            let due = self.due_in(&rooms, due);
+            let answer = faulty(self.asked(&rooms), &due, fault);
             if answer != due {
-                return Some((room, due, answer));
+                return Some((rooms, due, answer));
             }
         }
         None
     }
-}
 
-/// The due answer in a room: 3 after every other refusal, all bytes zero but the two numbers in the first sixteen.
-fn written(due: Due, room: usize) -> Answer {
-    let mut bytes = vec![0; room];
-    let mut number = due.refusal;
-    if room >= 16 {
-        bytes[..8].copy_from_slice(&due.a.to_le_bytes());
-        bytes[8..16].copy_from_slice(&due.b.to_le_bytes());
-    } else if number == 0 {
-        number = 3;
+    /// The judge's answer in given rooms of the outputs.
+    fn due_of(&self, outputs: &[usize], ample: &Due) -> Due {
+        let exact = outputs.iter().zip(&ample.outputs).all(|(room, output)| *room >= output.len());
+        // Of two outputs, a room that takes the end's records need not do: see `recover`.
+        if outputs.is_empty() || (self.entry.outputs == 1 && exact) {
+            ample.clone()
+        } else {
+            self.due(outputs)
+        }
     }
-    Answer { number, bytes, beside: false }
+
+    /// With the answer's room too: an answer that does not fit is 3, after every other refusal. A refusal leaves every output zero, and held bytes
+    /// as they were.
+    fn due_in(&self, rooms: &[usize], due: Due) -> Answer {
+        let mut outputs: Vec<Vec<u8>> = rooms.iter().map(|room| vec![0; *room]).collect();
+        if let Some(held) = self.held() {
+            outputs[0] = held.clone();
+        }
+        let short = self.entry.answer > 0 && rooms[self.entry.outputs] < self.entry.answer;
+        if short {
+            return Answer { number: if due.refusal == 0 { 3 } else { due.refusal }, outputs, beside: false };
+        }
+        let said = due.outputs.iter().zip(0..).chain([(&due.answer, self.entry.outputs)]);
+        for (bytes, i) in said.filter(|(bytes, _)| !bytes.is_empty()) {
+            outputs[i][..bytes.len()].copy_from_slice(bytes);
+        }
+        Answer { number: due.refusal, outputs, beside: false }
+    }
 }
 
-fn faulty(mut answer: Answer, room: usize, fault: Option<Fault>) -> Answer {
-    let wide = room >= 16;
-    match fault {
-        Some(Fault::BrokenIsSound) if answer.number == 2 => answer.number = 0,
-        Some(Fault::OversizeIsBroken) if answer.number == 1 => answer.number = 2,
-        Some(Fault::EventFromZero) if wide && (answer.number == 4 || answer.number == 5) => answer.bytes[0] = answer.bytes[0].wrapping_sub(1),
-        Some(Fault::NextCheckpoint) if wide && answer.number == 7 => answer.bytes[8] = answer.bytes[8].wrapping_add(1),
-        Some(Fault::HighestLess) if wide && answer.number == 0 && answer.bytes[0] > 1 => answer.bytes[0] = answer.bytes[0].wrapping_sub(1),
-        Some(Fault::WindowUnmarked) if wide && answer.number == 0 && answer.bytes[0] == 1 && answer.bytes[8] > 0 => answer.bytes[0] = 0,
-        Some(Fault::LastByteKept) if room == 17 => answer.bytes[16] = 0xa5,
-        Some(Fault::RoomUntested) if answer.number == 3 => answer.number = 0,
+fn faulty(mut answer: Answer, due: &Answer, fault: Option<Fault>) -> Answer {
+    let last = answer.outputs.iter_mut().rev().find(|o| !o.is_empty());
+    match (fault, last) {
+        (Some(Fault::BrokenIsSound), _) if answer.number == 2 => answer.number = 0,
+        (Some(Fault::OversizeIsBroken), _) if answer.number == 1 => answer.number = 2,
+        (Some(Fault::RoomUntested), _) if answer.number == 3 => answer.number = 0,
+        (Some(Fault::LastByteKept), Some(last)) => *last.last_mut().expect("not empty") = 0xa5,
+        (Some(Fault::FirstBitOther), Some(last)) if due.number == 0 => last[0] ^= 1,
+        (Some(Fault::RefusedNotCleared), Some(last)) if due.number != 0 => last[0] = 0xa5,
         _ => {}
     }
     answer

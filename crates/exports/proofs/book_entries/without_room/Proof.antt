@@ -1,15 +1,15 @@
 -- `exports::book_entries::without_room` meets its contract: by whether there is a refusal. Assumes nothing.
 use borrow.Author.Tests.{ne-eqb}
-use Rattle.exports.specs.Answer.{answerNumber}
+use Rattle.exports.specs.Answer.{roomNumber}
 use Rattle.exports.proofs.book_entries.without_room.Statement.{statement}
 use Rattle.exports.proofs.book_entries.without_room.Tie as tie
 
 returns : tie.Need-returns
-unfolding answerNumber
+unfolding roomNumber
 returns c = rw (c .if1 .taken)
 
 returns-2 : tie.Need-returns-2
-unfolding answerNumber
+unfolding roomNumber
 returns-2 c = rw (ne-eqb _ _ (c .if1 .left))
 
 pub without-room-spec : {M : Type 1} → statement M

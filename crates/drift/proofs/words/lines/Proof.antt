@@ -1,4 +1,4 @@
--- `report::lines`: the symbols are in order, and what is noted of each is what was last said.
+-- `words::lines`: the symbols are in order, and what is noted of each is what was last said.
 use borrow.Author.Needs.{needs}
 use Prim.Native.Nat.{ℕ, _/_, _≤_}
 use mathlib.Core.Path.{_≡_, ap, subst, _∙_}
@@ -16,8 +16,8 @@ use Rattle.drift.specs.Code as Code
 use Rattle.drift.proofs.Looked.{sound-rows}
 use Rattle.drift.proofs.Sized.{Sized}
 use Rattle.drift.proofs.Lines.{lines-are}
-use Rattle.drift.proofs.report.lines.Statement.{statement}
-use Rattle.drift.proofs.report.lines.Tie as tie
+use Rattle.drift.proofs.words.lines.Statement.{statement}
+use Rattle.drift.proofs.words.lines.Tie as tie
 
 -- an array of 2,048 zeros
 zeros : (l : List ℕ) → l ≡ replicate 2048 0 → length l ≡ 2048

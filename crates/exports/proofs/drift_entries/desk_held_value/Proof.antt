@@ -1,0 +1,32 @@
+-- `exports::drift_entries::desk_held_value` meets its contract, by those of `held_value`, `held_numbers` and `give`. Assumes nothing.
+use borrow.Author.Needs.{needs}
+use Rattle.exports.proofs.drift_entries.desk_held_value.Statement.{statement}
+use Rattle.exports.proofs.drift_entries.desk_held_value.Tie as tie
+use mathlib.Core.Path.{_∙_}
+use lib.ListN.{length}
+use Rattle.exports.proofs.Given.{of-same}
+
+held-value-requires : tie.Need-held-value-requires
+held-value-requires c κs = search needs
+
+held-numbers-requires : tie.Need-held-numbers-requires
+held-numbers-requires c κs = search needs
+
+give-requires : tie.Need-give-requires
+give-requires c κs = search needs
+
+same-length : tie.Need-same-length
+same-length c = search needs
+
+returns : tie.Need-returns
+returns c =
+    let give = c .before .before in
+    let held = give .before .before in
+    let helds = held .before in
+    let start = helds .before .before .before .before in
+    of-same (length (start .args .answer .now)) (held .held-numbers .ensures ∙ rw (helds .held-value .ensures)) (give .give .ensures)
+
+pub desk-held-value-spec : {M : Type 1} → statement M
+desk-held-value-spec =
+    tie.close
+    (tie.spec held-value-requires held-numbers-requires give-requires same-length returns)

@@ -1,0 +1,69 @@
+-- `exports::recovery_entries::desk_reconstruct_state` meets its contract, by those of the functions it calls. Assumes nothing.
+use borrow.Author.Needs.{needs}
+use Rattle.exports.proofs.recovery_entries.desk_reconstruct_state.Statement.{statement}
+use Rattle.exports.proofs.recovery_entries.desk_reconstruct_state.Tie as tie
+use mathlib.Core.Path.{ap, _∙_}
+use lib.ListN.{length}
+use mir.Syntax.{w64}
+use mir.ValLaws.{toZ-ofZ}
+use Rattle.recovery.specs.Recover.{recoveryNumber}
+use Rattle.recovery.specs.declared.recover.Recovery.{Recovery}
+use Rattle.exports.specs.Answer.{roomNumber, unlessShort}
+use Rattle.exports.specs.RecoveryAnswer.{recoveryBytes}
+use Rattle.exports.proofs.Lent.{beside}
+
+reconstruct-state-requires : tie.Need-reconstruct-state-requires
+reconstruct-state-requires c κs = search needs
+
+clear-if-short-requires : tie.Need-clear-if-short-requires
+clear-if-short-requires c κs = search needs
+
+clear-if-short-requires-2 : tie.Need-clear-if-short-requires-2
+clear-if-short-requires-2 c κs = search needs
+
+give-recovery-requires : tie.Need-give-recovery-requires
+give-recovery-requires c κs = search needs
+
+same-length : tie.Need-same-length
+same-length c = search needs
+
+same-length-2 : tie.Need-same-length-2
+same-length-2 c = search needs
+
+same-length-3 : tie.Need-same-length-3
+same-length-3 c = search needs
+
+returns : tie.Need-returns
+returns c =
+    let give = c .before .before in
+    let clear = give .before .before .before .before in
+    let clears = clear .before .before .before .before in
+    let reconstruct = clears .before .before .before .before .before .before in
+    let before = reconstruct .before .before .before .before .before .before in
+    let a = before .before in
+    let room = length (a .args .answer .now) in
+    let r = reconstruct .reconstruct-state in
+    let e = rw (toZ-ofZ w64 (a .args .time) (a .fits .time)) at (r .ensures) in
+    let g = give .give-recovery .ensures in (
+      g .0 ∙ ap (λ (x : Recovery). roomNumber 200 (recoveryNumber x) room) (e .0),
+      (
+        beside 200 room _ _ _ _ _ (clears .clear-if-short .ensures) (r .kept .1 .1 .0) (e .1),
+        (
+          beside 200 room _ _ _ _ _ (clear .clear-if-short2 .ensures) (r .kept .1 .1 .1 .0) (e .2),
+          g .1 ∙ ap (λ (x : Recovery). unlessShort 200 room room (recoveryBytes x room)) (e .0),
+        ),
+      ),
+    )
+
+pub desk-reconstruct-state-spec : {M : Type 1} → statement M
+desk-reconstruct-state-spec =
+    tie.close
+    (tie.spec
+    reconstruct-state-requires
+    clear-if-short-requires
+    clear-if-short-requires-2
+    give-recovery-requires
+    same-length
+    same-length-2
+    same-length-3
+    returns)

@@ -1,0 +1,68 @@
+-- `query::choose`: the orders from the i-th on decide.
+use borrow.Author.Needs.{needs}
+use Rattle.intents.proofs.query.choose.Statement.{statement}
+use Rattle.intents.proofs.query.choose.Tie as tie
+use Prim.Native.Nat.{_-_, _<_, _≤_}
+use mathlib.Core.Path.{_≡_, refl, sym, _∙_}
+use denote.Ref.{now}
+use lib.ListN.{drop}
+use Rattle.sheet.specs.Sheet.{orderCount, sheetOrders}
+use Rattle.intents.specs.Intents.{chosen}
+use Rattle.intents.proofs.Queries.{chosen-here, chosen-on, chosen-none}
+
+abbrev Inv-loop : tie.InvT-loop
+Inv-loop sheet n i₀ i = chosen (sheetOrders sheet) ≡ chosen (drop i (sheetOrders sheet))
+
+abbrev μ-loop : tie.MeasureT-loop
+μ-loop sheet n i₀ i = n - i
+
+order-count-requires : tie.Need-order-count-requires Inv-loop μ-loop
+order-count-requires c κs = search needs
+
+loop-holds : tie.Need-loop-holds Inv-loop μ-loop
+loop-holds c = refl
+
+order-at-requires : tie.Need-order-at-requires Inv-loop μ-loop
+order-at-requires c κs = search needs
+
+returns : tie.Need-returns Inv-loop μ-loop
+returns c =
+    let l = c .before .before .before .before .before .loop in
+    let s = now (c .before .before .before .before .before .before .before .before .args .sheet) in
+    let h : l .i < orderCount s = rw (← c .before .before .before .before .before .before .order-count .ensures) (c .before .before .before .before .loop-test .taken) in
+    sym (l .inv ∙ chosen-here s (l .i) (c .before .before .before .order-at .result) h (c .before .before .before .order-at .ensures) (c .before .if1 .taken))
+
+add-i : tie.Need-add-i Inv-loop μ-loop
+add-i c = search needs
+
+loop-less : tie.Need-loop-less Inv-loop μ-loop
+loop-less c = search needs
+
+loop-again : tie.Need-loop-again Inv-loop μ-loop
+loop-again c =
+    let l = c .before .before .before .before .loop in
+    let s = now (c .before .before .before .before .before .before .before .args .sheet) in
+    let h : l .i < orderCount s = rw (← c .before .before .before .before .before .order-count .ensures) (c .before .before .before .loop-test .taken) in
+    l .inv ∙ chosen-on s (l .i) (c .before .before .order-at .result) h (c .before .before .order-at .ensures) (c .if1 .left)
+
+returns-2 : tie.Need-returns-2 Inv-loop μ-loop
+returns-2 c =
+    let l = c .before .loop in
+    let s = now (c .before .before .before .before .args .sheet) in
+    let h : orderCount s ≤ l .i = rw (← c .before .before .order-count .ensures) (c .loop-test .left) in
+    sym (l .inv ∙ chosen-none s (l .i) h)
+
+pub choose-spec : {M : Type 1} → statement M
+choose-spec =
+    tie.close
+    (tie.spec
+    Inv-loop
+    μ-loop
+    order-count-requires
+    loop-holds
+    order-at-requires
+    returns
+    add-i
+    loop-less
+    loop-again
+    returns-2)

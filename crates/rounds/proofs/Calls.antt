@@ -1,0 +1,437 @@
+-- The three calls of a round, one by one: what each needs to pass, and what it hands to the next. About no function.
+-- Assumes nothing.
+use Prim.Native.Nat.{ℕ, _+_, _-_, _*_}
+use mathlib.Core.Path.{_≡_, refl, sym, ap, _∙_}
+use mathlib.Core.List.{List, [], _∷_}
+use mathlib.Core.Bool.{Bool, true, false, cond, true≢false, false≢true}
+use native.Mathlib.Omega.{arith}
+use lib.Dec.{leb, ltb}
+use lib.IntN.{ℤ, pos}
+use lib.ListN.{length, take, replicate}
+use lib.Seq.{take-at}
+use Rattle.wire.specs.Table.{encoded, padded}
+use Rattle.wire.specs.Layout.{bothOf}
+use Rattle.wire.specs.declared.layout.Layout.{Layout}
+use Rattle.wire.specs.declared.layout.Layout.the-variants as L
+use Rattle.wire.proofs.Records.{Each, length-encoded}
+use Rattle.wire.proofs.Records as Of
+use Rattle.symbol.specs.declared.Symbol.{Symbol}
+use Rattle.book.specs.Layout.{bookLayout, eventCount, rowCount}
+use Rattle.sheet.specs.Sheet.{sheetLayout, sheetOrders, ordersFailed}
+use Rattle.records.specs.Record.{orderBytes, ordersIn, ordersLayout}
+use Rattle.records.specs.Search.{isIntent, countWhere}
+use Rattle.records.specs.declared.order.Order.{Order}
+use Rattle.records.proofs.Orders.{order-size, orders-in, orders-sound}
+use Rattle.marks.specs.declared.Marks.{Marks}
+use Rattle.effects.specs.Event.{eventsOf}
+use Rattle.recovery.specs.Action.{actionOf}
+use Rattle.recovery.specs.Recover.{State, firstState, roomy, stateOf, timeLayout, doneIf, refusedOr, recovery, bytesIf, ordersOut}
+use Rattle.recovery.specs.declared.recover.Recovered.{Recovered}
+use Rattle.recovery.specs.declared.recover.Recovery.{Recovery}
+use Rattle.recovery.specs.declared.recover.Recovery.the-variants as Rec
+use Rattle.intents.specs.Intents.{reached, unreached, chosen, addendum, ordersMost, numbersLeft, reconcilesIf, reconciling, addendumBytesIf, addendumOut}
+use Rattle.intents.specs.Intents as Lent
+use Rattle.intents.specs.declared.Reconciled.{Reconciled}
+use Rattle.intents.specs.declared.Reconciling.{Reconciling}
+use Rattle.intents.specs.declared.Reconciling.the-variants as Ask
+use Rattle.join.specs.Join.{joined, joinedLength, tooLarge, joinsIf, joining, joinBytesIf, joinOut}
+use Rattle.join.specs.declared.Joining.{Joining}
+use Rattle.join.specs.declared.Joining.the-variants as Joins
+use Rattle.rounds.specs.Rounds.{Round, Outcome, afterJoin, joinRound, lentOrders, lentAddendum, afterReconciling, reconcileRound, afterRecovery, roundOf, next}
+use Rattle.rounds.specs.Demand3.{recovered, openIntents, done, passes}
+use Rattle.rounds.specs.declared.Rounded.the-variants.{NoRoom}
+use Rattle.rounds.proofs.Settling.{by-bool}
+use Rattle.rounds.proofs.Stepping.{steps-number, orders-apart}
+use Rattle.rounds.proofs.Spelling.{Good, good-passes}
+
+-- ---- a refused round leaves the log as it was
+join-refused : (r : Round) (log b : List ℕ) (v : Joining) → done (afterJoin r log b v .answer) ≡ false → afterJoin r log b v .log ≡ log
+join-refused r log b (Joins.Done n) h = absurd (true≢false h)
+join-refused r log b Joins.Oversize h = refl
+join-refused r log b Joins.Broken h = refl
+join-refused r log b Joins.TooMany h = refl
+join-refused r log b Joins.NoRoom h = refl
+
+reconciling-refused : (r : Round) (log : List ℕ) (x : Recovered) (v : Reconciling) → done (afterReconciling r log x v .answer) ≡ false
+    → afterReconciling r log x v .log ≡ log
+unfolding joinRound
+reconciling-refused r log x (Ask.Done y) h =
+    join-refused r log (lentAddendum r log x y) (joining log (lentAddendum r log x y) (r .k) (r .joined)) h
+reconciling-refused r log x Ask.Oversize h = refl
+reconciling-refused r log x Ask.Broken h = refl
+reconciling-refused r log x Ask.NoNumbers h = refl
+reconciling-refused r log x Ask.NoRoom h = refl
+
+recovery-refused : (r : Round) (log : List ℕ) (v : Recovery) → done (afterRecovery r log v .answer) ≡ false → afterRecovery r log v .log ≡ log
+unfolding reconcileRound
+recovery-refused r log (Rec.Done x) h =
+    reconciling-refused r log x (reconciling (x .marks) (lentOrders r log x) (r .sheet) (r .queries) (r .time) (r .addendum)) h
+recovery-refused r log Rec.Oversize h = refl
+recovery-refused r log Rec.Broken h = refl
+recovery-refused r log Rec.NoRoom h = refl
+
+pub round-refused : (r : Round) (log : List ℕ) → passes r log ≡ false → next r log ≡ log
+unfolding roundOf
+round-refused r log h = recovery-refused r log (recovery log (r .now) (r .orders) (r .positions)) h
+
+-- ---- layouts
+pub both-sound : (a b : Layout) → bothOf a b ≡ L.Sound → (a ≡ L.Sound) × (b ≡ L.Sound)
+both-sound L.Sound b h = (refl, h)
+both-sound L.Oversize b h = let z : _≡_ {A = ℕ} 0 1 = cc in absurd (omega arith)
+both-sound L.Broken L.Sound h = let z : _≡_ {A = ℕ} 0 1 = cc in absurd (omega arith)
+both-sound L.Broken L.Oversize h = let z : _≡_ {A = ℕ} 0 1 = cc in absurd (omega arith)
+both-sound L.Broken L.Broken h = let z : _≡_ {A = ℕ} 0 1 = cc in absurd (omega arith)
+
+-- what is read from the front of a buffer
+pub take-padded : (n : ℕ) (s : List ℕ) → take (length s) (padded n s) ≡ s
+unfolding padded
+take-padded n s = take-at s (replicate (n - length s) 0) (length s) refl
+
+-- ---- the first call
+abbrev pub recoveredAt : List ℕ → ℤ → Recovered
+recoveredAt log now =
+    let st = stateOf log now in
+    record { marks = st .marks; orders = length (st .orders); positions = length (st .positions); action = actionOf (st .marks) (st .orders) }
+
+pub record First (r : Round) (log : List ℕ) : Type 0 where
+  pub now : timeLayout (r .now) ≡ L.Sound
+  pub room : roomy (r .orders) (r .positions) (firstState (r .now)) (eventsOf log) ≡ true
+
+pub done-parts : (l : Layout) (b : Bool) (st : State) (x : Recovered) → refusedOr l (doneIf b st) ≡ Rec.Done x → (l ≡ L.Sound) × (b ≡ true)
+done-parts L.Sound true st x h = (refl, refl)
+done-parts L.Sound false st x h = let z : _≡_ {A = ℕ} 0 1 = cc in absurd (omega arith)
+done-parts L.Oversize b st x h = let z : _≡_ {A = ℕ} 0 1 = cc in absurd (omega arith)
+done-parts L.Broken b st x h = let z : _≡_ {A = ℕ} 0 1 = cc in absurd (omega arith)
+
+record Recovering (v : Recovery) : Type 0 where
+  given : Recovered
+  is : v ≡ Rec.Done given
+
+recovering : (r : Round) (log : List ℕ) (v : Recovery) → done (afterRecovery r log v .answer) ≡ true → Recovering v
+recovering r log (Rec.Done x) h = record { given = x; is = refl }
+recovering r log Rec.Oversize h = absurd (false≢true h)
+recovering r log Rec.Broken h = absurd (false≢true h)
+recovering r log Rec.NoRoom h = absurd (false≢true h)
+
+pub first-passed : (r : Round) (log : List ℕ) → passes r log ≡ true → First r log
+unfolding roundOf recovery
+first-passed r log h =
+    let g = recovering r log (recovery log (r .now) (r .orders) (r .positions)) h in
+    let p =
+    done-parts (bothOf (bookLayout log) (timeLayout (r .now))) (roomy (r .orders) (r .positions) (firstState (r .now)) (eventsOf log))
+    (stateOf log (r .now)) (g .given) (g .is) in
+    record { now = both-sound (bookLayout log) (timeLayout (r .now)) (p .0) .1; room = p .1 }
+
+recovery-is : (r : Round) (log : List ℕ) → bookLayout log ≡ L.Sound → First r log
+    → recovery log (r .now) (r .orders) (r .positions) ≡ Rec.Done (recoveredAt log (r .now))
+unfolding recovery
+recovery-is r log s f = rw (s, f .now, f .room)
+
+pub first-is : (r : Round) (log : List ℕ) → bookLayout log ≡ L.Sound → First r log → roundOf r log ≡ reconcileRound r log (recoveredAt log (r .now))
+unfolding roundOf
+first-is r log s f = ap (afterRecovery r log) (recovery-is r log s f)
+
+-- refused by 3 alone
+pub first-full : (r : Round) (log : List ℕ) → bookLayout log ≡ L.Sound → timeLayout (r .now) ≡ L.Sound
+    → roomy (r .orders) (r .positions) (firstState (r .now)) (eventsOf log) ≡ false → roundOf r log .answer ≡ NoRoom
+unfolding roundOf
+first-full r log s t f = ap (λ (v : Recovery). afterRecovery r log v .answer) full
+  where
+    full : recovery log (r .now) (r .orders) (r .positions) ≡ Rec.NoRoom
+    full = unfold recovery in rw (s, t, f)
+
+-- ---- the second call
+-- the symbols of the intents reached, and the addendum of their entries
+abbrev pub roundSymbols : Round → List ℕ → List Symbol
+roundSymbols r log = reached (ordersFailed (r .sheet)) (recovered log .orders) (r .queries)
+
+abbrev pub roundAddendum : Round → List ℕ → List ℕ
+roundAddendum r log = addendum (chosen (sheetOrders (r .sheet))) (r .time) (recovered log .marks .number) (roundSymbols r log)
+
+pub record Askable (r : Round) (log : List ℕ) : Type 0 where
+  pub few : leb ordersMost (64 * length (recovered log .orders)) ≡ false
+  pub sheet : sheetLayout (r .sheet) ≡ L.Sound
+  pub time : timeLayout (r .time) ≡ L.Sound
+  pub numbers : numbersLeft (recovered log .marks .number) (openIntents log) ≡ true
+  pub size : tooLarge (length (roundAddendum r log)) (length (roundSymbols r log)) 0 ≡ false
+
+pub record Second (r : Round) (log : List ℕ) : Type 0 where
+  pub askable : Askable r log
+  pub room : ltb (r .addendum) (length (roundAddendum r log)) ≡ false
+
+-- what it is lent: the marks' number and the orders
+number-apart : (log : List ℕ) (now : ℤ) → stateOf log now .marks .number ≡ recovered log .marks .number
+number-apart log now = steps-number (firstState now) (eventsOf log) ∙ sym (steps-number (firstState (pos 0)) (eventsOf log))
+
+lent-is : (r : Round) (log : List ℕ) → bookLayout log ≡ L.Sound → First r log
+    → lentOrders r log (recoveredAt log (r .now)) ≡ encoded orderBytes (recovered log .orders)
+unfolding ordersOut
+lent-is r log s f =
+    let os = stateOf log (r .now) .orders in
+    let e : encoded orderBytes os ≡ encoded orderBytes (recovered log .orders) = ap (encoded orderBytes) (orders-apart log (r .now)) in
+    ap (λ (v : Recovery). take (64 * length os) (bytesIf v (r .orders) (encoded orderBytes os))) (recovery-is r log s f)
+    ∙ ap (λ (n : ℕ). take n (padded (r .orders) (encoded orderBytes os))) (sym (length-encoded orderBytes 64 order-size os))
+    ∙ take-padded (r .orders) (encoded orderBytes os) ∙ e
+
+pub each-map : {A : Type 0} {P Q : A → Type 0} (xs : List A) → ((x : A) → P x → Q x) → Each P xs → Each Q xs
+each-map [] f Of.none = Of.none
+each-map (x ∷ xs) f (Of.more p ps) = Of.more (f x p) (each-map xs f ps)
+
+-- the answer, by the length, the layout and the orders of what it is lent, the number and the addendum
+unfoldable answerBy : Round → ℕ → Layout → List Order → ℕ → List ℕ → Reconciling
+unfolding unreached reached countWhere
+answerBy r len l os k a =
+    cond (leb ordersMost len) (reconcilesIf (bothOf (sheetLayout (r .sheet)) L.Broken) true [] 0 0 (r .addendum))
+    (reconcilesIf (bothOf (sheetLayout (r .sheet)) (bothOf l (timeLayout (r .time)))) (numbersLeft k (countWhere isIntent os)) a
+    (length (reached (ordersFailed (r .sheet)) os (r .queries))) (unreached (ordersFailed (r .sheet)) os (r .queries)) (r .addendum))
+
+answer-by : (r : Round) (m : Marks) (d : List ℕ)
+    → reconciling m d (r .sheet) (r .queries) (r .time) (r .addendum)
+    ≡ answerBy r (length d) (ordersLayout d) (ordersIn d) (m .number) (Lent.lentAddendum m d (r .sheet) (r .queries) (r .time))
+unfolding reconciling answerBy
+answer-by r m d = refl
+
+addendum-by : (r : Round) (m : Marks) (d : List ℕ) (k : ℕ) (os : List Order) → m .number ≡ k → ordersIn d ≡ os
+    → Lent.lentAddendum m d (r .sheet) (r .queries) (r .time)
+    ≡ addendum (chosen (sheetOrders (r .sheet))) (r .time) k (reached (ordersFailed (r .sheet)) os (r .queries))
+unfolding Lent.lentAddendum
+addendum-by r m d k os p q =
+    ap (λ (x : List Order). addendum (chosen (sheetOrders (r .sheet))) (r .time) (m .number) (reached (ordersFailed (r .sheet)) x (r .queries))) q
+    ∙ ap (λ (x : ℕ). addendum (chosen (sheetOrders (r .sheet))) (r .time) x (reached (ordersFailed (r .sheet)) os (r .queries))) p
+
+abbrev asked : Round → List ℕ → Reconciling
+asked r log = answerBy r (64 * length (recovered log .orders)) L.Sound (recovered log .orders) (recovered log .marks .number) (roundAddendum r log)
+
+-- taken apart
+record Answered (r : Round) (len : ℕ) (os : List Order) (k : ℕ) (a : List ℕ) (y : Reconciled) : Type 0 where
+  few : leb ordersMost len ≡ false
+  sheet : sheetLayout (r .sheet) ≡ L.Sound
+  time : timeLayout (r .time) ≡ L.Sound
+  numbers : numbersLeft k (countWhere isIntent os) ≡ true
+  size : tooLarge (length a) (length (reached (ordersFailed (r .sheet)) os (r .queries))) 0 ≡ false
+  room : ltb (r .addendum) (length a) ≡ false
+  length : y .length ≡ length a
+
+pub reconciles-done : (l : Layout) (b : Bool) (a : List ℕ) (n m room : ℕ) (y : Reconciled) → reconcilesIf l b a n m room ≡ Ask.Done y
+    → (l ≡ L.Sound) × (b ≡ true) × (tooLarge (length a) n 0 ≡ false) × (ltb room (length a) ≡ false) × (y .length ≡ length a)
+reconciles-done L.Oversize b a n m room y h = let z : _≡_ {A = ℕ} 0 1 = cc in absurd (omega arith)
+reconciles-done L.Broken b a n m room y h = let z : _≡_ {A = ℕ} 0 1 = cc in absurd (omega arith)
+reconciles-done L.Sound false a n m room y h = let z : _≡_ {A = ℕ} 0 1 = cc in absurd (omega arith)
+reconciles-done L.Sound true a n m room y h = by (tooLarge (length a) n 0) (ltb room (length a)) refl refl h
+  where
+    by : (t u : Bool) → tooLarge (length a) n 0 ≡ t → ltb room (length a) ≡ u
+        → cond t Ask.Oversize (cond u Ask.NoRoom (Ask.Done (record { entries = n; unreached = m; length = length a }))) ≡ Ask.Done y
+        → (L.Sound ≡ L.Sound) × (true ≡ true) × (tooLarge (length a) n 0 ≡ false) × (ltb room (length a) ≡ false) × (y .length ≡ length a)
+    by true u p q h = let z : _≡_ {A = ℕ} 0 1 = cc in absurd (omega arith)
+    by false true p q h = let z : _≡_ {A = ℕ} 0 1 = cc in absurd (omega arith)
+    by false false p q h =
+        let e : record { entries = n; unreached = m; length = length a } ≡ y = cc in
+        (refl, refl, p, q, sym (ap (λ (z : Reconciled). z .length) e))
+
+pub never-broken : (l : Layout) (y : Reconciled) (n : ℕ) → reconcilesIf (bothOf l L.Broken) true [] 0 0 n ≡ Ask.Done y → ⊥
+never-broken L.Sound y n h = let z : _≡_ {A = ℕ} 0 1 = cc in omega arith
+never-broken L.Oversize y n h = let z : _≡_ {A = ℕ} 0 1 = cc in omega arith
+never-broken L.Broken y n h = let z : _≡_ {A = ℕ} 0 1 = cc in omega arith
+
+answered : (r : Round) (len : ℕ) (os : List Order) (k : ℕ) (a : List ℕ) (y : Reconciled) → answerBy r len L.Sound os k a ≡ Ask.Done y → Answered r len os k a y
+unfolding answerBy
+answered r len os k a y h =
+    by-bool (leb ordersMost len) (λ e. absurd (never-broken (sheetLayout (r .sheet)) y (r .addendum) (rw e at h)))
+    (λ e.
+    let p =
+    reconciles-done (bothOf (sheetLayout (r .sheet)) (timeLayout (r .time))) (numbersLeft k (countWhere isIntent os)) a
+    (length (reached (ordersFailed (r .sheet)) os (r .queries))) (unreached (ordersFailed (r .sheet)) os (r .queries)) (r .addendum) y (rw e at h) in
+    let q = both-sound (sheetLayout (r .sheet)) (timeLayout (r .time)) (p .0) in
+    record { few = e; sheet = q .0; time = q .1; numbers = p .1; size = p .2; room = p .3; length = p .4 })
+
+record Reconciles (v : Reconciling) : Type 0 where
+  given : Reconciled
+  is : v ≡ Ask.Done given
+
+reconciles : (r : Round) (log : List ℕ) (x : Recovered) (v : Reconciling) → done (afterReconciling r log x v .answer) ≡ true → Reconciles v
+reconciles r log x (Ask.Done y) h = record { given = y; is = refl }
+reconciles r log x Ask.Oversize h = absurd (false≢true h)
+reconciles r log x Ask.Broken h = absurd (false≢true h)
+reconciles r log x Ask.NoNumbers h = absurd (false≢true h)
+reconciles r log x Ask.NoRoom h = absurd (false≢true h)
+
+module _ (r : Round) (log : List ℕ) (n : ℕ) (s : bookLayout log ≡ L.Sound) (f : First r log) (g : Each (Good n) (recovered log .orders)) where
+  -- the orders that were lent are those recovered
+  orders-back : ordersIn (lentOrders r log (recoveredAt log (r .now))) ≡ recovered log .orders
+  orders-back =
+      ap ordersIn (lent-is r log s f) ∙ orders-in (recovered log .orders) (each-map (recovered log .orders) (λ o q. q .fits) g)
+
+  layout-back : ordersLayout (lentOrders r log (recoveredAt log (r .now))) ≡ L.Sound
+  layout-back = ap ordersLayout (lent-is r log s f) ∙ orders-sound (recovered log .orders) (each-map (recovered log .orders) (good-passes n) g)
+
+  length-back : length (lentOrders r log (recoveredAt log (r .now))) ≡ 64 * length (recovered log .orders)
+  length-back = ap length (lent-is r log s f) ∙ length-encoded orderBytes 64 order-size (recovered log .orders)
+
+  addendum-back :
+      Lent.lentAddendum (stateOf log (r .now) .marks) (lentOrders r log (recoveredAt log (r .now))) (r .sheet) (r .queries) (r .time) ≡ roundAddendum r log
+  addendum-back =
+      addendum-by r (stateOf log (r .now) .marks) (lentOrders r log (recoveredAt log (r .now))) (recovered log .marks .number) (recovered log .orders)
+      (number-apart log (r .now)) orders-back
+
+  asked-is : reconciling (stateOf log (r .now) .marks) (lentOrders r log (recoveredAt log (r .now))) (r .sheet) (r .queries) (r .time) (r .addendum) ≡ asked r log
+  asked-is =
+      let d = lentOrders r log (recoveredAt log (r .now)) in
+      let m = stateOf log (r .now) .marks in
+      let a = Lent.lentAddendum m d (r .sheet) (r .queries) (r .time) in
+      answer-by r m d ∙ ap (λ (x : ℕ). answerBy r x (ordersLayout d) (ordersIn d) (m .number) a) length-back
+      ∙ ap (λ (x : Layout). answerBy r (64 * length (recovered log .orders)) x (ordersIn d) (m .number) a) layout-back
+      ∙ ap (λ (x : List Order). answerBy r (64 * length (recovered log .orders)) L.Sound x (m .number) a) orders-back
+      ∙ ap (λ (x : ℕ). answerBy r (64 * length (recovered log .orders)) L.Sound (recovered log .orders) x a) (number-apart log (r .now))
+      ∙ ap (answerBy r (64 * length (recovered log .orders)) L.Sound (recovered log .orders) (recovered log .marks .number)) addendum-back
+
+  pub second-passed : done (reconcileRound r log (recoveredAt log (r .now)) .answer) ≡ true → Second r log
+  unfolding reconcileRound
+  second-passed h =
+      let d = lentOrders r log (recoveredAt log (r .now)) in
+      let m = stateOf log (r .now) .marks in
+      let v = reconciles r log (recoveredAt log (r .now)) (reconciling m d (r .sheet) (r .queries) (r .time) (r .addendum)) h in
+      let p =
+      answered r (64 * length (recovered log .orders)) (recovered log .orders) (recovered log .marks .number) (roundAddendum r log) (v .given)
+      (sym asked-is ∙ v .is) in
+      record { askable = record { few = p .few; sheet = p .sheet; time = p .time; numbers = p .numbers; size = p .size }; room = p .room }
+
+  -- what it answers where it passes
+  abbrev pub reconciledBy : Reconciled
+  reconciledBy =
+      record {
+        entries = length (roundSymbols r log);
+        unreached = unreached (ordersFailed (r .sheet)) (recovered log .orders) (r .queries);
+        length = length (roundAddendum r log);
+      }
+
+  asked-done : Second r log → asked r log ≡ Ask.Done reconciledBy
+  unfolding answerBy
+  asked-done q = rw (q .askable .few, q .askable .sheet, q .askable .time, q .askable .numbers, q .askable .size, q .room)
+
+  asked-full : Askable r log → ltb (r .addendum) (length (roundAddendum r log)) ≡ true → asked r log ≡ Ask.NoRoom
+  unfolding answerBy
+  asked-full q h = rw (q .few, q .sheet, q .time, q .numbers, q .size, h)
+
+  -- refused by 3 alone
+  pub second-full : Askable r log → ltb (r .addendum) (length (roundAddendum r log)) ≡ true
+      → reconcileRound r log (recoveredAt log (r .now)) .answer ≡ NoRoom
+  unfolding reconcileRound
+  second-full q h = ap (λ (v : Reconciling). afterReconciling r log (recoveredAt log (r .now)) v .answer) (asked-is ∙ asked-full q h)
+
+  lent-addendum : Second r log → lentAddendum r log (recoveredAt log (r .now)) reconciledBy ≡ roundAddendum r log
+  unfolding addendumOut
+  lent-addendum q =
+      let d = lentOrders r log (recoveredAt log (r .now)) in
+      let m = stateOf log (r .now) .marks in
+      let a = roundAddendum r log in
+      ap (λ (v : Reconciling). take (length a) (addendumBytesIf v (r .addendum) (Lent.lentAddendum m d (r .sheet) (r .queries) (r .time)))) (asked-is ∙ asked-done q)
+      ∙ ap (λ (x : List ℕ). take (length a) (padded (r .addendum) x)) addendum-back ∙ take-padded (r .addendum) a
+
+  pub second-is : Second r log → reconcileRound r log (recoveredAt log (r .now)) ≡ joinRound r log (roundAddendum r log)
+  unfolding reconcileRound
+  second-is q =
+      ap (afterReconciling r log (recoveredAt log (r .now))) (asked-is ∙ asked-done q) ∙ ap (joinRound r log) (lent-addendum q)
+
+-- ---- the third call, on a sound log
+pub record Joinable (r : Round) (log b : List ℕ) : Type 0 where
+  pub sound : bookLayout b ≡ L.Sound
+  pub count : ltb (eventCount b) (r .k) ≡ false
+  pub size : tooLarge (joinedLength log b (r .k)) (eventCount log + r .k) (rowCount log + rowCount b) ≡ false
+
+pub record Third (r : Round) (log b : List ℕ) : Type 0 where
+  pub joinable : Joinable r log b
+  pub room : ltb (r .joined) (joinedLength log b (r .k)) ≡ false
+
+record Joined (v : Joining) : Type 0 where
+  given : ℕ
+  is : v ≡ Joins.Done given
+
+joins : (r : Round) (log b : List ℕ) (v : Joining) → done (afterJoin r log b v .answer) ≡ true → Joined v
+joins r log b (Joins.Done n) h = record { given = n; is = refl }
+joins r log b Joins.Oversize h = absurd (false≢true h)
+joins r log b Joins.Broken h = absurd (false≢true h)
+joins r log b Joins.TooMany h = absurd (false≢true h)
+joins r log b Joins.NoRoom h = absurd (false≢true h)
+
+joins-done : (l : Layout) (a b : List ℕ) (k room n : ℕ) → joinsIf l a b k room ≡ Joins.Done n
+    → (l ≡ L.Sound) × (ltb (eventCount b) k ≡ false) × (tooLarge (joinedLength a b k) (eventCount a + k) (rowCount a + rowCount b) ≡ false)
+    × (ltb room (joinedLength a b k) ≡ false)
+joins-done L.Oversize a b k room n h = let z : _≡_ {A = ℕ} 0 1 = cc in absurd (omega arith)
+joins-done L.Broken a b k room n h = let z : _≡_ {A = ℕ} 0 1 = cc in absurd (omega arith)
+joins-done L.Sound a b k room n h =
+    by (ltb (eventCount b) k) (tooLarge (joinedLength a b k) (eventCount a + k) (rowCount a + rowCount b)) (ltb room (joinedLength a b k)) refl refl refl h
+  where
+    by : (t u v : Bool) → ltb (eventCount b) k ≡ t → tooLarge (joinedLength a b k) (eventCount a + k) (rowCount a + rowCount b) ≡ u
+        → ltb room (joinedLength a b k) ≡ v → cond t Joins.TooMany (cond u Joins.Oversize (cond v Joins.NoRoom (Joins.Done (joinedLength a b k)))) ≡ Joins.Done n
+        → (L.Sound ≡ L.Sound) × (ltb (eventCount b) k ≡ false) × (tooLarge (joinedLength a b k) (eventCount a + k) (rowCount a + rowCount b) ≡ false)
+        × (ltb room (joinedLength a b k) ≡ false)
+    by true u v p q w h = let z : _≡_ {A = ℕ} 0 1 = cc in absurd (omega arith)
+    by false true v p q w h = let z : _≡_ {A = ℕ} 0 1 = cc in absurd (omega arith)
+    by false false true p q w h = let z : _≡_ {A = ℕ} 0 1 = cc in absurd (omega arith)
+    by false false false p q w h = (refl, p, q, w)
+
+pub third-passed : (r : Round) (log b : List ℕ) → bookLayout log ≡ L.Sound → done (joinRound r log b .answer) ≡ true → Third r log b
+unfolding joinRound joining
+third-passed r log b s h =
+    let v = joins r log b (joining log b (r .k) (r .joined)) h in
+    let p = joins-done (bothOf (bookLayout log) (bookLayout b)) log b (r .k) (r .joined) (v .given) (v .is) in
+    record { joinable = record { sound = both-sound (bookLayout log) (bookLayout b) (p .0) .1; count = p .1; size = p .2 }; room = p .3 }
+
+pub joining-is : (r : Round) (log b : List ℕ) → bookLayout log ≡ L.Sound → Third r log b → joining log b (r .k) (r .joined) ≡ Joins.Done (joinedLength log b (r .k))
+unfolding joining
+joining-is r log b s t = rw (s, t .joinable .sound, t .joinable .count, t .joinable .size, t .room)
+
+-- refused by 3 alone
+joining-full : (r : Round) (log b : List ℕ) → bookLayout log ≡ L.Sound → Joinable r log b → ltb (r .joined) (joinedLength log b (r .k)) ≡ true
+    → joining log b (r .k) (r .joined) ≡ Joins.NoRoom
+unfolding joining
+joining-full r log b s t h = rw (s, t .sound, t .count, t .size, h)
+
+pub third-full : (r : Round) (log b : List ℕ) → bookLayout log ≡ L.Sound → Joinable r log b → ltb (r .joined) (joinedLength log b (r .k)) ≡ true
+    → joinRound r log b .answer ≡ NoRoom
+unfolding joinRound
+third-full r log b s t h = ap (λ (v : Joining). afterJoin r log b v .answer) (joining-full r log b s t h)
+
+pub third-done : (r : Round) (log b : List ℕ) → bookLayout log ≡ L.Sound → Third r log b → done (joinRound r log b .answer) ≡ true
+unfolding joinRound
+third-done r log b s t = ap (λ (v : Joining). done (afterJoin r log b v .answer)) (joining-is r log b s t)
+
+-- join's result is the next log
+pub third-log : (r : Round) (log b : List ℕ) → bookLayout log ≡ L.Sound → Third r log b → length (joined log b (r .k)) ≡ joinedLength log b (r .k)
+    → joinRound r log b .log ≡ joined log b (r .k)
+unfolding joinRound joinOut
+third-log r log b s t e =
+    ap (λ (v : Joining). afterJoin r log b v .log) (joining-is r log b s t)
+    ∙ ap (λ (v : Joining). take (joinedLength log b (r .k)) (joinBytesIf v (r .joined) (joined log b (r .k)))) (joining-is r log b s t)
+    ∙ ap (λ (n : ℕ). take n (padded (r .joined) (joined log b (r .k)))) (sym e) ∙ take-padded (r .joined) (joined log b (r .k))
+
+-- and the addendum is what was to be joined
+pub third-addendum : (r : Round) (log b : List ℕ) → joinRound r log b .addendum ≡ b
+unfolding joinRound
+third-addendum r log b = by (joining log b (r .k) (r .joined))
+  where
+    by : (v : Joining) → afterJoin r log b v .addendum ≡ b
+    by (Joins.Done n) = refl
+    by Joins.Oversize = refl
+    by Joins.Broken = refl
+    by Joins.TooMany = refl
+    by Joins.NoRoom = refl
+
+-- ---- the whole round
+pub record Passed (r : Round) (log : List ℕ) : Type 0 where
+  pub first : First r log
+  pub second : Second r log
+  pub third : Third r log (roundAddendum r log)
+  pub is : roundOf r log ≡ joinRound r log (roundAddendum r log)
+
+pub stages : (r : Round) (log : List ℕ) (n : ℕ) → bookLayout log ≡ L.Sound → Each (Good n) (recovered log .orders) → First r log → Second r log
+    → roundOf r log ≡ joinRound r log (roundAddendum r log)
+stages r log n s g f q = first-is r log s f ∙ second-is r log n s f g q
+
+pub passed : (r : Round) (log : List ℕ) (n : ℕ) → bookLayout log ≡ L.Sound → Each (Good n) (recovered log .orders) → passes r log ≡ true → Passed r log
+passed r log n s g h =
+    let f = first-passed r log h in
+    let h₂ = sym (ap (λ (o : Outcome). done (o .answer)) (first-is r log s f)) ∙ h in
+    let q = second-passed r log n s f g h₂ in
+    let h₃ = sym (ap (λ (o : Outcome). done (o .answer)) (second-is r log n s f g q)) ∙ h₂ in
+    record { first = f; second = q; third = third-passed r log (roundAddendum r log) s h₃; is = stages r log n s g f q }

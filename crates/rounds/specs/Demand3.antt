@@ -1,0 +1,145 @@
+-- Demand 3, claimed once, of every list of rounds: its hypotheses and its conclusions, in the mission's words.
+-- Assumes nothing.
+use Prim.Native.Nat.{ℕ, suc, _^_, _≤_, _<_, _+_}
+use mathlib.Core.Path.{_≡_}
+use mathlib.Core.List.{List, [], _∷_}
+use mathlib.Core.Bool.{Bool, true, false, not}
+use mathlib.Core.Option.{Option, none, some}
+use lib.Dec.{ltb}
+use lib.IntN.{ℤ, pos}
+use lib.ListN.{length, take, drop, replicate}
+use Rattle.wire.specs.declared.layout.Layout.the-variants as L
+use Rattle.symbol.specs.Symbol.{sameSymbol, symbolIs}
+use Rattle.symbol.specs.declared.Symbol.{Symbol}
+use Rattle.book.specs.Layout.{bookLayout, eventCount}
+use Rattle.book.specs.Event.{textOf}
+use Rattle.book.specs.declared.event.SequenceNumber.{SequenceNumber}
+use Rattle.book.specs.declared.event.SequenceNumber.the-variants as N
+use Rattle.checkpoint.specs.declared.Named.{Named}
+use Rattle.checkpoint.specs.declared.Named.the-variants as K
+use Rattle.marks.specs.Marks.{numberOrZero}
+use Rattle.sheet.specs.Sheet.{sheetLayout, sheetOrders, ordersFailed}
+use Rattle.sheet.specs.declared.BrokerOrderStatus.{BrokerOrderStatus}
+use Rattle.records.specs.Search.{isIntent, countWhere, anyWhere}
+use Rattle.records.specs.declared.order.Order.{Order}
+use Rattle.effects.specs.Event.{Event, eventsOf}
+use Rattle.audit.specs.Verdict.{bookVerdict}
+use Rattle.audit.specs.declared.validate.Verdict.the-variants as Ver
+use Rattle.recovery.specs.Recover.{State, stateOf, timeLayout}
+use Rattle.state.specs.State.{sameState}
+use Rattle.intents.specs.Intents.{reached, chosen}
+use Rattle.intents.specs.declared.Chosen.{Chosen}
+use Rattle.intents.specs.declared.Chosen.the-variants as C
+use Rattle.rounds.specs.Rounds.{Round, roundOf, next, run}
+use Rattle.rounds.specs.declared.Rounded.{Rounded}
+use Rattle.rounds.specs.declared.Rounded.the-variants.{Done, Oversize, Broken, NoNumbers, TooMany, NoRoom}
+
+-- ---- recovered, with room for all records; the time is left out of every comparison below
+abbrev pub recovered : List ℕ → State
+recovered log = stateOf log (pos 0)
+
+-- open intents: the intents among a log's recovered orders
+abbrev pub openIntents : List ℕ → ℕ
+openIntents log = countWhere isIntent (recovered log .orders)
+
+-- recovered orders repeat no symbol
+abbrev pub hasSymbol : Symbol → Order → Bool
+hasSymbol y o = sameSymbol (o .symbol) y
+
+abbrev pub NoRepeat : List Order → Type 0
+NoRepeat [] = Unit
+NoRepeat (o ∷ os) = (anyWhere (hasSymbol (o .symbol)) os ≡ false) × NoRepeat os
+
+-- the last checkpoint's number, read as 0 if unnumbered or absent
+abbrev pub numberAfter : Named → SequenceNumber → ℕ → ℕ
+numberAfter K.Nothing number n = n
+numberAfter (K.Is k) number n = numberOrZero number
+
+unfoldable pub lastNumber : ℕ → List Event → ℕ
+lastNumber n [] = n
+lastNumber n (e ∷ es) = lastNumber (numberAfter (e .checkpoint) (e .number) n) es
+
+-- ---- entries: the events added to the first log; an intent's entry is an added event with its symbol
+abbrev pub added : List ℕ → List ℕ → List Event
+added first log = drop (length (eventsOf first)) (eventsOf log)
+
+abbrev pub isText : Symbol → Option (List ℕ) → Bool
+isText y none = false
+isText y (some t) = symbolIs y t
+
+abbrev pub isEntry : Symbol → Event → Bool
+isEntry y e = isText y (e .symbol)
+
+-- numbers that follow n without a gap
+abbrev pub Follow : ℕ → List Event → Type 0
+Follow n [] = Unit
+Follow n (e ∷ es) = (e .number ≡ N.Is (suc n)) × Follow (suc n) es
+
+-- ---- a round that is not refused; that is written whole; in which an open intent's query was answered
+abbrev pub done : Rounded → Bool
+done (Done n) = true
+done Oversize = false
+done Broken = false
+done NoNumbers = false
+done TooMany = false
+done NoRoom = false
+
+abbrev pub passes : Round → List ℕ → Bool
+passes r log = done (roundOf r log .answer)
+
+abbrev pub Whole : Round → List ℕ → Type 0
+Whole r log = r .k ≡ eventCount (roundOf r log .addendum)
+
+abbrev pub answered : Round → List ℕ → Bool
+answered r log = ltb 0 (length (reached (ordersFailed (r .sheet)) (recovered log .orders) (r .queries)))
+
+-- ---- the broker: answered queries all show one list, its first order with quantity remaining, if any, numbered at most 2^63 - 1
+abbrev pub Small : Chosen → Type 0
+Small (C.Is id) = id .0 < 2 ^ 63
+Small C.Nothing = Unit
+
+abbrev pub OneList : List BrokerOrderStatus → List Round → List ℕ → Type 0
+OneList list [] log = Unit
+OneList list (r ∷ rs) log = (passes r log ≡ true → answered r log ≡ true → sheetOrders (r .sheet) ≡ list) × OneList list rs (next r log)
+
+-- each round written whole in which an open intent's query was answered left fewer open
+abbrev pub Fewer : List Round → List ℕ → Type 0
+Fewer [] log = Unit
+Fewer (r ∷ rs) log =
+    (passes r log ≡ true → Whole r log → answered r log ≡ true → openIntents (next r log) < openIntents log) × Fewer rs (next r log)
+
+-- ---- the uncut round joins all of B, with room, valid times, the broker's list and a 0 for each intent
+pub record Uncut (broker : List BrokerOrderStatus) (log : List ℕ) (u : Round) : Type 0 where
+  pub sheet : sheetLayout (u .sheet) ≡ L.Sound
+  pub list : sheetOrders (u .sheet) ≡ broker
+  pub up : ordersFailed (u .sheet) ≡ false
+  pub zeros : u .queries ≡ replicate (openIntents log) 0
+  pub now : timeLayout (u .now) ≡ L.Sound
+  pub time : timeLayout (u .time) ≡ L.Sound
+  -- whatever room it has, refusal 3 is not its answer
+  pub room : roundOf u log .answer ≡ NoRoom → ⊥
+  pub whole : Whole u log
+
+-- two logs recover to equal states
+unfoldable pub sameRecovered : List ℕ → List ℕ → Bool
+unfolding sameState
+sameRecovered a b =
+    sameState (textOf a) (textOf b) (recovered a .marks) (recovered b .marks) (recovered a .orders) (recovered b .orders)
+    (recovered a .positions) (recovered b .positions)
+
+-- ---- the conclusions, at the end of a list of rounds that began on `log`
+pub record Demand3 (broker : List BrokerOrderStatus) (rs : List Round) (log : List ℕ) : Type 0 where
+  -- the log is well formed, and begins with the first log's events
+  pub formed : bookLayout (run rs log) ≡ L.Sound
+  pub kept : take (length (eventsOf log)) (eventsOf (run rs log)) ≡ eventsOf log
+  -- an accepted log is still accepted
+  pub accepted : bookVerdict log ≡ Ver.Accepted → bookVerdict (run rs log) ≡ Ver.Accepted
+  -- no intent has two entries
+  pub once : (y : Symbol) → countWhere (isEntry y) (added log (run rs log)) ≤ 1
+  -- entries and intents still open add up to the intents open at first
+  pub total : length (added log (run rs log)) + openIntents (run rs log) ≡ openIntents log
+  -- the entries' numbers follow the first log's last checkpoint's without a gap
+  pub numbers : Follow (lastNumber 0 (eventsOf log)) (added log (run rs log))
+  pub fewer : Fewer rs log
+  -- when none is open, the recovered state equals, except its time, that of one uncut round without failures from the first log
+  pub ends : openIntents (run rs log) ≡ 0 → (u : Round) → Uncut broker log u → sameRecovered (run rs log) (next u log) ≡ true

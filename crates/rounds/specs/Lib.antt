@@ -1,0 +1,3 @@
+pub mod Rounds
+pub mod Between
+pub mod Demand3

@@ -1,7 +1,7 @@
 // The desk program: reads `book.bin` and `sheet.bin` from the folder it is run in, and prints the reply.
 //
-// Each file is read into one byte more than a file may have, so that a larger one is seen as such. A missing file is read as empty; one that
-// cannot be read is read as far as it can be, and a message on standard error says so.
+// Each file is read into one byte more than a file may have, so that a larger one is seen as such. A missing file is read as empty; so is one that
+// cannot be opened, with a message on standard error; one whose reading fails is read as far as it came.
 ghost use Rattle.io.specs.Counts.{Counts};
 use libc::STDOUT_FILENO;
 use reply::Replied;

@@ -127,6 +127,7 @@ fn of_log(kind: &str, case: &LogCase, rng: &mut Rng) -> Vec<Question> {
         out.push(Question::new(&ACTION, vec![altered(rng, &marks), altered(rng, &said.orders)], vec![]));
     }
     out.extend(steps(case, rng));
+    out.extend(beside(case, rng));
     if kind == "damaged" {
         for _ in 0..COPIES {
             out.push(Question::new(&CHECK_BOOK, vec![altered(rng, book)], vec![]));
@@ -148,6 +149,19 @@ fn steps(case: &LogCase, rng: &mut Rng) -> Vec<Question> {
     let lent = [marks.clone(), altered(rng, &marks), marks];
     let numbers = [next as u64, next as u64, rng.pick(&[events as u64, events as u64 + 1, u32::MAX as u64])];
     lent.into_iter().zip(numbers).map(|(marks, next)| Question::new(&STEP, vec![case.book.clone(), marks], vec![next])).collect()
+}
+
+/// Marks that may be no record, beside a book and a sheet that may be refused.
+fn beside(case: &LogCase, rng: &mut Rng) -> Vec<Question> {
+    let marks = Marks::begin(case.time).bytes();
+    let none = Vec::new();
+    let mut out = Vec::new();
+    for lent in [altered(rng, &marks), marks.clone()] {
+        let sides = [[case.book.clone(), lent.clone()], [altered(rng, &case.book), marks.clone()]];
+        out.push(Question::new(&EQUAL, sides.iter().flat_map(|[book, marks]| [book.clone(), marks.clone(), none.clone(), none.clone()]).collect(), vec![]));
+        out.push(Question::new(&COMPARE, vec![lent, none.clone(), none.clone(), case.sheet.clone()], vec![]));
+    }
+    out
 }
 
 fn of_records(case: &RecordsCase) -> Vec<Question> {

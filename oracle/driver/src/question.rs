@@ -6,6 +6,9 @@ use crate::library::Lent;
 /// Room enough for every output of a case.
 const AMPLE: usize = 1 << 20;
 
+/// The most room behind an exact one.
+const BEHIND: usize = 4_096;
+
 #[derive(Clone)]
 pub struct Question {
     pub entry: &'static Entry,
@@ -108,7 +111,10 @@ impl Question {
                 out.push(answer(&exact, last));
             }
         }
-        out.extend(self.rooms.iter().map(|rooms| answer(rooms, self.entry.answer)));
+        for rooms in &self.rooms {
+            let near: Vec<usize> = rooms.iter().zip(&exact).map(|(room, exact)| (*room).min(exact + BEHIND)).collect();
+            out.push(answer(&near, self.entry.answer));
+        }
         out
     }
 

@@ -1,4 +1,4 @@
-//! The recorded list: cases with their answers in one file, laid out as recorded/FORMAT.md says.
+//! The recorded list: cases with their answers in one file, laid out as crates/replay/FORMAT.md says.
 
 use std::panic::{catch_unwind, AssertUnwindSafe};
 

@@ -1,0 +1,60 @@
+-- `replay::read_cases`: the case's number and the cases left add up to the count, so the number fits.
+use Prim.Native.Nat.{_+_}
+use mathlib.Core.Path.{_≡_}
+use lib.ListN.{length}
+use borrow.Author.Needs.{needs}
+use Rattle.replay.proofs.read_cases.Statement.{statement}
+use Rattle.replay.proofs.read_cases.Tie as tie
+
+abbrev Inv-loop : tie.InvT-loop
+Inv-loop fd tally₀ count case₀ left₀ tally case left = (length tally ≡ length tally₀) × (case + left ≡ count)
+
+abbrev μ-loop : tie.MeasureT-loop
+μ-loop fd tally₀ count case₀ left₀ tally case left = left
+
+loop-holds : tie.Need-loop-holds Inv-loop μ-loop
+loop-holds c = search needs
+
+read-case-requires : tie.Need-read-case-requires Inv-loop μ-loop
+read-case-requires c κs = search needs
+
+same-length : tie.Need-same-length Inv-loop μ-loop
+same-length c = search needs
+
+returns : tie.Need-returns Inv-loop μ-loop
+returns c = search needs
+
+add-case : tie.Need-add-case Inv-loop μ-loop
+add-case c = search needs
+
+sub-left : tie.Need-sub-left Inv-loop μ-loop
+sub-left c = search needs
+
+loop-less : tie.Need-loop-less Inv-loop μ-loop
+loop-less c = search needs
+
+loop-again : tie.Need-loop-again Inv-loop μ-loop
+loop-again c = search needs
+
+same-length-2 : tie.Need-same-length-2 Inv-loop μ-loop
+same-length-2 c = search needs
+
+returns-2 : tie.Need-returns-2 Inv-loop μ-loop
+returns-2 c = search needs
+
+pub read-cases-spec : {M : Type 1} → statement M
+read-cases-spec =
+    tie.close
+    (tie.spec
+    Inv-loop
+    μ-loop
+    loop-holds
+    read-case-requires
+    same-length
+    returns
+    add-case
+    sub-left
+    loop-less
+    loop-again
+    same-length-2
+    returns-2)

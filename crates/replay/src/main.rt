@@ -1,0 +1,104 @@
+// Replays the recorded answers of the Rust: reads `cases.bin` from the folder it is run in, asks the library each case's questions, and compares
+// the answers byte for byte with the recorded ones. FORMAT.md has the list's layout.
+//
+// It prints a line for each answer that differs, by the case's number, from 0, and the section's, then how many answers of each sort were compared.
+mod body;
+mod conversions;
+mod drifts;
+mod lent;
+mod logs;
+mod numbers;
+mod states;
+mod tally;
+
+use libc::STDOUT_FILENO;
+
+fn print_line(text: &[u8]) {
+    io::write_all(STDOUT_FILENO, text);
+}
+
+// A case of a kind.
+fn by_kind(tally: &mut [u64], case: u64, kind: u32, b: &[u8]) {
+    tally::add(tally, tally::CASES);
+    match kind {
+        1 => logs::replay(tally, case, b),
+        2 => drifts::replay(tally, case, b),
+        3 => conversions::replay(tally, case, b),
+        4 => states::replay(tally, case, b),
+        _ => tally::differs(tally, case, 0),
+    }
+}
+
+// Reads a body of so many bytes and replays it; false where the list has it not whole, or it is above 65,536 bytes.
+fn read_body(fd: i32, tally: &mut [u64], case: u64, kind: u32, len: u32) -> bool {
+    let mut bytes = [0u8; 65536];
+    let n = lent::read_in(fd, &mut bytes, len as u64);
+    if n != (len as usize) {
+        return false;
+    }
+    by_kind(tally, case, kind, wire::part(&bytes, 0, n));
+    true
+}
+
+// Reads a case and replays it.
+fn read_case(fd: i32, tally: &mut [u64], case: u64) -> bool {
+    let mut head = [0u8; 8];
+    if io::read_full(fd, &mut head) != 8 {
+        return false;
+    }
+    let kind = wire::u32_of(&head);
+    let len = wire::u32_at(&head, 4);
+    read_body(fd, tally, case, kind, len)
+}
+
+// Replays so many cases; false where the list ends before.
+fn read_cases(fd: i32, tally: &mut [u64], count: u32) -> bool {
+    let mut case: u64 = 0;
+    let mut left = count;
+    while 0 < left {
+        if !read_case(fd, tally, case) {
+            return false;
+        }
+        case += 1;
+        left -= 1;
+    }
+    true
+}
+
+// Whether nothing is left to read.
+fn at_end(fd: i32) -> bool {
+    let mut more = [0u8; 1];
+    io::read_full(fd, &mut more) == 0
+}
+
+// Replays a whole list, and says where it is none.
+fn read_list(fd: i32, tally: &mut [u64]) {
+    let mut head = [0u8; 8];
+    if io::read_full(fd, &mut head) != 8 {
+        print_line(b"no list\n");
+        return;
+    }
+    if wire::u32_of(&head) != 1 {
+        print_line(b"no list of format 1\n");
+        return;
+    }
+    if !read_cases(fd, tally, wire::u32_at(&head, 4)) {
+        print_line(b"the list breaks off\n");
+        return;
+    }
+    if !at_end(fd) {
+        print_line(b"bytes behind the last case\n");
+    }
+}
+
+fn main() {
+    let fd = os::open_read(b"cases.bin");
+    if fd < 0 {
+        os::fail(b"cases.bin");
+        return;
+    }
+    let mut tally = [0u64; 20];
+    read_list(fd, &mut tally);
+    libc::close(fd);
+    tally::print(&tally);
+}

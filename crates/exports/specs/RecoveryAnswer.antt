@@ -38,9 +38,6 @@ actionCode Resume = 1
 actionCode ManualReview = 2
 
 -- ---- recovery: the marks in 176 bytes, then how many orders, how many positions, and the action; 200 bytes, the others zero
-abbrev pub recoveredSize : ℕ
-recoveredSize = 200
-
 unfoldable pub recoveredBytes : Recovered → List ℕ
 recoveredBytes r = marksBytes (r .marks) ++ (bytesOf 8 (r .orders) ++ bytesOf 8 (r .positions) ++ bytesOf 8 (actionCode (r .action)))
 

@@ -36,20 +36,19 @@ same-length-3 c = search needs
 returns : tie.Need-returns
 returns c =
     let give = c .before .before in
-    let clear = give .before .before .before .before in
-    let clears = clear .before .before .before .before in
-    let reconstruct = clears .before .before .before .before .before .before in
-    let before = reconstruct .before .before .before .before .before .before in
-    let a = before .before in
+    let clear-positions = give .before .before .before .before in
+    let clear-orders = clear-positions .before .before .before .before in
+    let reconstruct = clear-orders .before .before .before .before .before .before in
+    let a = reconstruct .before .before .before .before .before .before .before in
     let room = length (a .args .answer .now) in
     let r = reconstruct .reconstruct-state in
     let e = rw (toZ-ofZ w64 (a .args .time) (a .fits .time)) at (r .ensures) in
     let g = give .give-recovery .ensures in (
       g .0 ∙ ap (λ (x : Recovery). roomNumber 200 (recoveryNumber x) room) (e .0),
       (
-        beside 200 room _ _ _ _ _ (clears .clear-if-short .ensures) (r .kept .1 .1 .0) (e .1),
+        beside 200 room _ _ _ _ _ (clear-orders .clear-if-short .ensures) (r .kept .1 .1 .0) (e .1),
         (
-          beside 200 room _ _ _ _ _ (clear .clear-if-short2 .ensures) (r .kept .1 .1 .1 .0) (e .2),
+          beside 200 room _ _ _ _ _ (clear-positions .clear-if-short2 .ensures) (r .kept .1 .1 .1 .0) (e .2),
           g .1 ∙ ap (λ (x : Recovery). unlessShort 200 room room (recoveryBytes x room)) (e .0),
         ),
       ),

@@ -34,13 +34,13 @@ returns : tie.Need-returns
 returns c =
     let put = c .before .before in
     let action = put .before in
-    let puts = action .before .before .before .before in
-    let putss = puts .before .before .before .before .before in
-    let putsss = putss .before .before .before .before .before in
-    let start = putsss .before .before .before .before in
+    let positions = action .before .before .before .before in
+    let orders = positions .before .before .before .before .before in
+    let marks = orders .before .before .before .before .before in
+    let start = marks .before .before .before .before in
     let a = start .args in
     put .put-u643 .ensures
-    ∙ rw (action .action-code .ensures, puts .put-u642 .ensures, putss .put-u64 .ensures, putsss .put-marks .ensures) (recovered-written (now (a .d)) (a .r))
+    ∙ rw (action .action-code .ensures, positions .put-u642 .ensures, orders .put-u64 .ensures, marks .put-marks .ensures) (recovered-written (now (a .d)) (a .r))
 
 pub put-recovered-spec : {M : Type 1} → statement M
 put-recovered-spec =

@@ -32,12 +32,13 @@ returns : tie.Need-returns
 returns c =
     let give = c .before .before in
     let clear = give .before .before .before .before in
-    let reply = clear .before .before in
-    let replys = reply .before .before .before in
-    let start = replys .before .before .before .before .before .before in
+    let numbered = clear .before .before in
+    let replied = numbered .before .before .before in
+    let start = replied .before .before .before .before .before .before in
     let room = length (start .args .answer .now) in
-    let r = replys .reply in
-    let g = of-same room (reply .reply-numbers .ensures ∙ ap (λ (x : Replied). numbers (numberAlone (repliedNumbers x))) (r .ensures .0)) (give .give .ensures) in
+    let r = replied .reply in
+    let e = numbered .reply-numbers .ensures ∙ ap (λ (x : Replied). numbers (numberAlone (repliedNumbers x))) (r .ensures .0) in
+    let g = of-same room e (give .give .ensures) in
     (g .0, (beside 16 room _ _ _ _ _ (clear .clear-if-short .ensures) (r .kept .1 .1 .0) (r .ensures .1), g .1))
 
 pub desk-reply-spec : {M : Type 1} → statement M

@@ -43,29 +43,29 @@ broken-marks-of-requires-2 c κs = search needs
 
 returns : tie.Need-returns
 returns c =
-    let marks = c .before .before in
-    let markss = marks .before in
-    let arm = markss .before in
+    let marks-b = c .before .before in
+    let marks-a = marks-b .before in
+    let arm = marks-a .before in
     let both = arm .before .before in
-    let check = both .before in
-    let checks = check .before in
-    let e = told (both .both .ensures) (checks .check .ensures) (check .check2 .ensures) (arm .enum-told .given .1) in
-    c .equality-numbers .ensures ∙ rw (c .before .states-equal .ensures, markss .marks-of .ensures, marks .marks-of2 .ensures, e)
+    let check-b = both .before in
+    let check-a = check-b .before in
+    let e = told (both .both .ensures) (check-a .check .ensures) (check-b .check2 .ensures) (arm .enum-told .given .1) in
+    c .equality-numbers .ensures ∙ rw (c .before .states-equal .ensures, marks-a .marks-of .ensures, marks-b .marks-of2 .ensures, e)
 
 returns-2 : tie.Need-returns-2
 returns-2 c =
     let both = c .before .before .before in
-    let check = both .before in
-    let checks = check .before in
-    let e = told (both .both .ensures) (checks .check .ensures) (check .check2 .ensures) (c .before .enum-told2 .given .1) in
+    let check-b = both .before in
+    let check-a = check-b .before in
+    let e = told (both .both .ensures) (check-a .check .ensures) (check-b .check2 .ensures) (c .before .enum-told2 .given .1) in
     c .broken-marks-of .ensures ∙ rw e
 
 returns-3 : tie.Need-returns-3
 returns-3 c =
     let both = c .before .before .before in
-    let check = both .before in
-    let checks = check .before in
-    let e = told (both .both .ensures) (checks .check .ensures) (check .check2 .ensures) (c .before .enum-told3 .given .1) in
+    let check-b = both .before in
+    let check-a = check-b .before in
+    let e = told (both .both .ensures) (check-a .check .ensures) (check-b .check2 .ensures) (c .before .enum-told3 .given .1) in
     c .broken-marks-of2 .ensures ∙ rw e
 
 pub lent-equality-spec : {M : Type 1} → statement M

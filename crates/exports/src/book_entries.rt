@@ -141,7 +141,7 @@ pub fn give(refusal: u32, a: u64, b: u64, answer: &mut [u8]) -> u32
     refusal
 }
 
-// Entry. Refusals 1 and 2 of a book.
+// Refusals 1 and 2 of a book.
 #[no_mangle]
 pub extern "C" fn desk_check_book(book: &[u8]) -> u32
     ensures { λ n. ⌜ n ≡ layoutNumber (bookLayout (now (book .entry))) ⌝ }
@@ -149,7 +149,7 @@ pub extern "C" fn desk_check_book(book: &[u8]) -> u32
     layout_number(book::layout::check(book))
 }
 
-// Entry. Refusals 1 and 2 of a sheet.
+// Refusals 1 and 2 of a sheet.
 #[no_mangle]
 pub extern "C" fn desk_check_sheet(sheet: &[u8]) -> u32
     ensures { λ n. ⌜ n ≡ layoutNumber (sheetLayout (now (sheet .entry))) ⌝ }
@@ -167,7 +167,7 @@ pub extern "C" fn desk_validate_checkpoints(book: &[u8], answer: &mut [u8]) -> u
     give(verdict.refusal, verdict.a, verdict.b, answer)
 }
 
-// Entry. The highest checkpoint number, then 0.
+// The highest checkpoint number, then 0.
 #[no_mangle]
 pub extern "C" fn desk_max_checkpoint_sequence(book: &[u8], answer: &mut [u8]) -> u32
     ensures { λ k. ⌜ k ≡ answerNumber (highestNumbers (bookHighest (now (book .entry))) .0) (length (now (answer .entry))) ⌝ }
@@ -177,7 +177,7 @@ pub extern "C" fn desk_max_checkpoint_sequence(book: &[u8], answer: &mut [u8]) -
     give(highest.refusal, highest.a, highest.b, answer)
 }
 
-// Entry. 1 and the number by which the window is already complete, or two zeros.
+// 1 and the number by which the window is already complete, or two zeros.
 #[no_mangle]
 pub extern "C" fn desk_check_window_already_complete(
     book: &[u8],

@@ -26,7 +26,7 @@ fn answered(r: Fixed, answer: &mut [u8]) -> u32
     }
 }
 
-// Entry. `f64_to_fixed_checked` of the f64s that have the bits value and scale.
+// `f64_to_fixed_checked` of the f64s that have the bits value and scale.
 #[no_mangle]
 pub extern "C" fn desk_f64_to_fixed_checked(value: u64, scale: u64, answer: &mut [u8]) -> u32
     ensures { λ k. ⌜ k ≡ refusalIn (toFixed (ofBits binary64 value) (ofBits binary64 scale)) (length (now (answer .entry))) ⌝ }

@@ -17,7 +17,7 @@ fn print_line(text: &[u8]) {
     io::write_all(STDOUT_FILENO, text);
 }
 
-// A case of a kind.
+// A case of a kind. One of no kind that is known differs in its section 0.
 fn by_kind(tally: &mut [u64], case: u64, kind: u32, b: &[u8]) {
     tally::add(tally, tally::CASES);
     match kind {

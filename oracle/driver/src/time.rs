@@ -1,11 +1,13 @@
-//! Times on the largest books: the layout test, validation and recovery, beside the original on the same events.
+//! Times on the largest inputs: the layout test, validation, recovery and drift, beside the original on the same events and lists.
 
 use std::hint::black_box;
 use std::path::Path;
 
+use nanobook::Symbol;
 use oracle::doc01::book::{Book, Cell, Event, Row, TextRef, ACTION, CLIENT, EVENT, HEADER, LIMIT, MAX_BYTES, ORDERS, ROW, SHARES, SYMBOL};
 use oracle::json::{lines, Texts};
-use rebalancer::{audit, recovery};
+use rebalancer::diff::CurrentPosition;
+use rebalancer::{audit, reconcile, recovery};
 
 use crate::library::{self, Lent};
 
@@ -138,6 +140,45 @@ fn recovery_times() -> Result<(), String> {
     Ok(())
 }
 
+/// A row of a drift list: the symbol's field of 16 bytes, and what stands behind it.
+fn drift_row(symbol: &str, rest: &[u8]) -> Vec<u8> {
+    let mut out = symbol.as_bytes().to_vec();
+    out.resize(8, 0);
+    out.push(symbol.len() as u8);
+    out.resize(16, 0);
+    out.extend(rest);
+    out
+}
+
+/// 1,024 rows of each list; targets share `shared` symbols with what is held, and a price stands for each symbol of the targets.
+fn drift_times(what: &str, shared: usize) -> Result<(), String> {
+    const ROWS: usize = 1_024;
+    // An order that is none: multiples of a number without a common factor.
+    let name = |i: usize| symbol(i * 7_919 % 17_576);
+    let held: Vec<(String, i64)> = (0..ROWS).map(|i| (name(i), 100 + i as i64)).collect();
+    let targets: Vec<(String, f64)> = (0..ROWS).map(|i| (name(ROWS - shared + i), i as f64 / 100_000.0)).collect();
+    let prices: Vec<(String, i64)> = targets.iter().enumerate().map(|(i, (s, _))| (s.clone(), 1_000 + i as i64)).collect();
+    let inputs = vec![
+        held.iter().flat_map(|(s, q)| drift_row(s, &[q.to_le_bytes(), [0; 8]].concat())).collect::<Vec<u8>>(),
+        targets.iter().flat_map(|(s, w)| drift_row(s, &w.to_bits().to_le_bytes())).collect(),
+        prices.iter().flat_map(|(s, p)| drift_row(s, &p.to_le_bytes())).collect(),
+    ];
+    let mut lent = [Lent::new(64 * 2 * ROWS), Lent::new(16)];
+    let number = library::desk_reconcile(&inputs, &[1_000_000_000], &mut lent);
+    let count = u64::from_le_bytes(lent[1].bytes()[..8].try_into().expect("eight bytes"));
+    println!("drift of 1,024 rows of each list, {what}: {count} entries, answer {number}; medians of {RUNS} runs, microseconds of processor time");
+    println!("    desk_reconcile, from bytes to records: {:.1}", median(RUNS, || library::desk_reconcile(black_box(&inputs), &[1_000_000_000], &mut lent)));
+    let held_inputs = vec![inputs[0].clone(), inputs[2].clone()];
+    println!("    desk_held_value: {:.1}", median(RUNS, || library::desk_held_value(black_box(&held_inputs), &[], &mut [Lent::new(16)])));
+    let symbol = |s: &String| Symbol::try_new(s).ok_or_else(|| format!("no symbol: {s}"));
+    let held = held.iter().map(|(s, q)| Ok(CurrentPosition { symbol: symbol(s)?, quantity: *q, avg_cost_cents: 0 })).collect::<Result<Vec<_>, String>>()?;
+    let targets = targets.iter().map(|(s, w)| Ok((symbol(s)?, *w))).collect::<Result<Vec<_>, String>>()?;
+    let prices = prices.iter().map(|(s, p)| Ok((symbol(s)?, *p))).collect::<Result<Vec<_>, String>>()?;
+    let entries = reconcile::reconcile(&held, &targets, &prices, 1_000_000_000).entries.len();
+    println!("    the original, from parsed lists to entries ({entries}): {:.1}", median(RUNS, || reconcile::reconcile(black_box(&held), black_box(&targets), black_box(&prices), 1_000_000_000).entries.len()));
+    Ok(())
+}
+
 pub fn time() -> Result<bool, String> {
     let book = largest();
     let sound = vec![book.bytes()];
@@ -161,5 +202,7 @@ pub fn time() -> Result<bool, String> {
     println!("  the original: validate_checkpoints_from_parsed on the parsed events: {:.1}", median(RUNS, || audit::validate_checkpoints_from_parsed(black_box(&events)).is_ok()));
     println!("  the original: parse_audit_events_from_str of its {} bytes of JSON, {FEW} runs: {:.1}", log.len(), median(FEW, || audit::parse_audit_events_from_str(black_box(&log)).is_ok()));
     recovery_times()?;
+    drift_times("none of them shared", 0)?;
+    drift_times("all of them shared", 1_024)?;
     Ok(true)
 }

@@ -1,6 +1,6 @@
 -- Answers beside outputs, and answers that lent marks come before. About no function.
 -- Assumes nothing.
-use Prim.Native.Nat.{ℕ, _<_, _≤_}
+use Prim.Native.Nat.{ℕ, _+_, _<_, _≤_}
 use mathlib.Core.Path.{_≡_, refl, sym, ap, _∙_}
 use mathlib.Core.List.{List, [], _++_, append-assoc, append-nil}
 use mathlib.Core.Bool.{Bool, true, false}
@@ -19,11 +19,13 @@ use Rattle.marks.specs.declared.Marks.{Marks}
 use Rattle.marks_record.specs.MarksRecord.{marksBytes, marksOk, marksLayout}
 use Rattle.marks_record.proofs.Puts.{behind, marks-size}
 use Rattle.recovery.specs.declared.recover.Recovered.{Recovered}
+use Rattle.intents.specs.declared.Reconciled.{Reconciled}
 use Rattle.effects.specs.Step.{marksStep}
 use Rattle.reader.specs.Reader.{eventAt, stepped, alteredIf, marksAfter}
 use Rattle.reader.specs.declared.Stepped.{Stepped}
 use Rattle.exports.specs.Answer.{roomNumber, unlessShort}
 use Rattle.exports.specs.RecoveryAnswer.{actionCode, recoveredBytes, keptIfShort}
+use Rattle.exports.specs.RoundAnswer.{reconciledBytes}
 
 -- ---- an answer without room, and with room
 pub short-number : (size refusal room : ℕ) → room < size → roomNumber 16 refusal 0 ≡ roomNumber size refusal room
@@ -47,9 +49,9 @@ pub told : {a b u v r x : Layout} → r ≡ bothOf a b → a ≡ u → b ≡ v �
 told h p q e = rw (← p, ← q) (sym h ∙ e)
 
 -- ---- recovery's answer, written part by part
-three-words : (d : List ℕ) (x y z : ℕ)
-    → sets (sets (sets d 176 (bytesOf 8 x)) 184 (bytesOf 8 y)) 192 (bytesOf 8 z) ≡ sets d 176 (bytesOf 8 x ++ bytesOf 8 y ++ bytesOf 8 z)
-three-words d x y z = simp (append-assoc, sets-number)
+three-words : (d : List ℕ) (at x y z : ℕ)
+    → sets (sets (sets d at (bytesOf 8 x)) (at + 8) (bytesOf 8 y)) (at + 8 + 8) (bytesOf 8 z) ≡ sets d at (bytesOf 8 x ++ bytesOf 8 y ++ bytesOf 8 z)
+three-words d at x y z = simp (append-assoc, sets-number)
 
 pub recovered-written : (d : List ℕ) (r : Recovered)
     → sets (sets (sets (sets d 0 (marksBytes (r .marks))) 176 (bytesOf 8 (r .orders))) 184 (bytesOf 8 (r .positions))) 192
@@ -57,9 +59,15 @@ pub recovered-written : (d : List ℕ) (r : Recovered)
     ≡ sets d 0 (recoveredBytes r)
 unfolding recoveredBytes
 recovered-written d r =
-    three-words (sets d 0 (marksBytes (r .marks))) (r .orders) (r .positions) (actionCode (r .action))
+    three-words (sets d 0 (marksBytes (r .marks))) 176 (r .orders) (r .positions) (actionCode (r .action))
     ∙ behind 176 (marksBytes (r .marks)) (bytesOf 8 (r .orders) ++ bytesOf 8 (r .positions) ++ bytesOf 8 (actionCode (r .action))) d 0
     (marks-size (r .marks))
+
+-- ---- reconciling's answer, the same
+pub reconciled-written : (d : List ℕ) (r : Reconciled)
+    → sets (sets (sets d 0 (bytesOf 8 (r .entries))) 8 (bytesOf 8 (r .unreached))) 16 (bytesOf 8 (r .length)) ≡ sets d 0 (reconciledBytes r)
+unfolding reconciledBytes
+reconciled-written d r = three-words d 0 (r .entries) (r .unreached) (r .length)
 
 -- ---- a lent record of marks
 whole : (s t : List ℕ) → length t ≡ length s → sets s 0 t ≡ t

@@ -1,4 +1,5 @@
 pub mod Answer
 pub mod DriftAnswer
 pub mod RecoveryAnswer
+pub mod RoundAnswer
 pub mod TypesEntries

@@ -5,5 +5,6 @@ mod drift_entries;
 mod float_entries;
 mod recovery_entries;
 mod reply_entries;
+mod round_entries;
 mod state_entries;
 mod types_entries;

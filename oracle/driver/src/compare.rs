@@ -9,7 +9,7 @@ use oracle::generator::{self, Case, DriftCase, LogCase, RecordsCase, Rng};
 use oracle::judge;
 
 use crate::entries::{
-    Due, Entry, ACTION, CHECK_BOOK, CHECK_SHEET, COMPARE, DRIFT, EQUAL, HELD, MAX, RECOVER, REPLY, STEP, UNJUDGED, VERDICT, WINDOW,
+    Due, Entry, ACTION, CHECK_BOOK, CHECK_SHEET, COMPARE, DRIFT, EQUAL, HELD, JOIN, MAX, RECONCILE, RECOVER, REPLY, STEP, UNJUDGED, VERDICT, WINDOW,
 };
 use crate::question::{Fault, Question, Tally, FAULTS};
 use crate::smallest::{print, smallest};
@@ -52,6 +52,9 @@ impl Counts {
                 if line.starts_with("verdict 0") { "accepted".into() } else { line.split(' ').take(2).collect::<Vec<_>>().join(" ") }
             }
             ("desk_step", 0) => format!("0, {}", if first(due) > 0 { "stepped" } else { "none left" }),
+            ("desk_reconcile_incomplete_intents", 0) => {
+                format!("0, {}, {}", if first(due) > 0 { "entries" } else { "no entry" }, if second(due) > 0 { "unreached" } else { "all reached" })
+            }
             (_, UNJUDGED) => "not judged".into(),
             (_, r) => r.to_string(),
         };
@@ -122,6 +125,7 @@ fn of_log(kind: &str, case: &LogCase, rng: &mut Rng) -> Vec<Question> {
         out.push(Question::new(&COMPARE, lent, vec![]).with_rooms(vec![case.rooms[2]]));
         let state = [book.clone(), marks.clone(), said.orders.clone(), said.positions.clone()];
         out.push(Question::new(&EQUAL, [state.clone(), state.clone()].concat(), vec![]));
+        out.extend(rounds(case, &said.marks, &said.orders, rng));
         let other = altered(rng, &said.orders);
         out.push(Question::new(&EQUAL, [state.to_vec(), vec![book.clone(), altered(rng, &marks), other, said.positions]].concat(), vec![]));
         out.push(Question::new(&ACTION, vec![altered(rng, &marks), altered(rng, &said.orders)], vec![]));
@@ -164,12 +168,39 @@ fn beside(case: &LogCase, rng: &mut Rng) -> Vec<Question> {
     out
 }
 
+/// Reconciling on a recovered state and with altered inputs; the join of its addendum, with k past the end, of altered books, and of the book with itself.
+fn rounds(case: &LogCase, marks: &Marks, orders: &[u8], rng: &mut Rng) -> Vec<Question> {
+    let time = vec![case.entry_time as u64];
+    let lent = vec![marks.bytes(), orders.to_vec(), case.sheet.clone(), case.queries.clone()];
+    let mut out = vec![Question::new(&RECONCILE, lent.clone(), time.clone()).with_rooms(vec![case.rooms[3]])];
+    for i in 0..3 {
+        let mut other = lent.clone();
+        other[i] = altered(rng, &lent[i]);
+        out.push(Question::new(&RECONCILE, other, time.clone()));
+    }
+    let join = |a: &[u8], b: &[u8], k: u64| Question::new(&JOIN, vec![a.to_vec(), b.to_vec()], vec![k]);
+    if let Ok(said) = judge::reconcile_incomplete_intents(marks, orders, &case.sheet, &case.queries, case.entry_time, usize::MAX) {
+        out.push(join(&case.book, &said.book, case.k).with_rooms(vec![case.rooms[4]]));
+        out.push(join(&case.book, &said.book, said.entries));
+        out.push(join(&case.book, &said.book, said.entries + 1));
+        out.push(join(&altered(rng, &case.book), &said.book, case.k));
+        out.push(join(&case.book, &altered(rng, &said.book), case.k));
+    }
+    let events = Book::parse(&case.book).map_or(0, |book| book.events.len());
+    out.push(join(&case.book, &case.book, rng.below(events + 1) as u64));
+    out
+}
+
 fn of_records(case: &RecordsCase) -> Vec<Question> {
     let sides = [&case.first, &case.second].map(|s| vec![s.book.clone(), s.marks.bytes(), s.orders.clone(), s.positions.clone()]);
     let first = &sides[0];
+    let k = Book::parse(&case.second.book).map_or(0, |book| book.events.len());
     vec![
         Question::new(&ACTION, vec![first[1].clone(), first[2].clone()], vec![]),
         Question::new(&COMPARE, vec![first[1].clone(), first[2].clone(), first[3].clone(), case.sheet.clone()], vec![]).with_rooms(vec![case.rooms[0]]),
+        Question::new(&RECONCILE, vec![first[1].clone(), first[2].clone(), case.sheet.clone(), case.queries.clone()], vec![case.time as u64])
+            .with_rooms(vec![case.rooms[1]]),
+        Question::new(&JOIN, vec![case.first.book.clone(), case.second.book.clone()], vec![k as u64]),
         Question::new(&EQUAL, sides.concat(), vec![]),
         Question::new(&EQUAL, [first.clone(), first.clone()].concat(), vec![]),
     ]

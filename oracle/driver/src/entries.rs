@@ -36,6 +36,7 @@ pub const UNJUDGED: u32 = u32::MAX;
 /// Bytes of recovery's answer: the marks, three numbers.
 const RECOVERED: usize = 176 + 24;
 const TWO: usize = 16;
+const THREE: usize = 24;
 
 fn numbers(of: &[u64]) -> Vec<u8> {
     of.iter().flat_map(|n| n.to_le_bytes()).collect()
@@ -149,6 +150,20 @@ fn step(inputs: &[Vec<u8>], numbers: &[u64]) -> Result<(Vec<u8>, u64, u64), u32>
         return Err(UNJUDGED);
     }
     Ok((judge::step(&inputs[0], marks.time, next)?.ok_or(UNJUDGED)?.bytes(), 1, 0))
+}
+
+fn joined(inputs: &[Vec<u8>], numbers: &[u64], rooms: &[usize]) -> Result<(Vec<u8>, u64, u64), u32> {
+    let book = judge::join(&inputs[0], &inputs[1], numbers[0], rooms[0])?;
+    let length = book.len() as u64;
+    Ok((book, length, 0))
+}
+
+fn reconciled(inputs: &[Vec<u8>], times: &[u64], rooms: &[usize]) -> Result<Due, u32> {
+    Sheet::limits(&inputs[2])?;
+    let marks = marks(&inputs[0])?;
+    let said = judge::reconcile_incomplete_intents(&marks, &inputs[1], &inputs[2], &inputs[3], times[0] as i64, rooms[0])?;
+    let answer = numbers(&[said.entries, said.unreached, said.book.len() as u64]);
+    Ok(Due { refusal: 0, outputs: vec![said.book], answer })
 }
 
 fn verdict(inputs: &[Vec<u8>]) -> Due {
@@ -297,4 +312,26 @@ pub static HELD: Entry = Entry {
     held: false,
     due: |inputs, _, _| two(judge::held_value(&inputs[0], &inputs[1]).map(|value| (value as u64, 0))),
     call: library::desk_held_value,
+};
+
+pub static JOIN: Entry = Entry {
+    name: "desk_join",
+    inputs: &["first book", "second book"],
+    numbers: &["k"],
+    outputs: 1,
+    answer: TWO,
+    held: false,
+    due: |inputs, numbers, rooms| written(joined(inputs, numbers, rooms)),
+    call: library::desk_join,
+};
+
+pub static RECONCILE: Entry = Entry {
+    name: "desk_reconcile_incomplete_intents",
+    inputs: &["marks", "orders", "sheet", "queries"],
+    numbers: &["time"],
+    outputs: 1,
+    answer: THREE,
+    held: false,
+    due: |inputs, numbers, rooms| reconciled(inputs, numbers, rooms).unwrap_or_else(refused),
+    call: library::desk_reconcile_incomplete_intents,
 };

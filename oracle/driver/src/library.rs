@@ -66,3 +66,5 @@ entry!(desk_compare_broker_state(marks, orders, positions, sheet; ; report, answ
 entry!(desk_reply(book, sheet; ; text, answer));
 entry!(desk_reconcile(positions, targets, prices; equity: i64; entries, answer));
 entry!(desk_held_value(positions, prices; ; answer));
+entry!(desk_join(a, b; k: u64; out, answer));
+entry!(desk_reconcile_incomplete_intents(marks, orders, sheet, queries; time: i64; addendum, answer));

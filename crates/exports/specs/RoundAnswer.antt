@@ -1,4 +1,4 @@
--- The answers of the join and of reconciling in the bytes that a caller lent. Definitions only.
+-- The answers of the join, of reconciling and of a round in the bytes that a caller lent. Definitions only.
 use Prim.Native.Nat.{ℕ}
 use mathlib.Core.List.{List, _++_}
 use lib.IntN.{ℤ}
@@ -16,6 +16,9 @@ use Rattle.intents.specs.Intents.{reconciling, addendumOut}
 use Rattle.intents.specs.declared.Reconciled.{Reconciled}
 use Rattle.intents.specs.declared.Reconciling.{Reconciling}
 use Rattle.intents.specs.declared.Reconciling.the-variants as I
+use Rattle.rounds.specs.Rounds.{roundedNumber}
+use Rattle.rounds.specs.declared.Rounded.{Rounded}
+use Rattle.rounds.specs.declared.Rounded.the-variants as R
 use Rattle.exports.specs.RecoveryAnswer.{marksElse}
 
 -- ---- join: the refusal, and the length of the joined book
@@ -59,3 +62,15 @@ lentReconciling marks orders sheet queries time room =
 abbrev pub lentAddendumOut : List ℕ → List ℕ → List ℕ → List ℕ → ℤ → ℕ → List ℕ
 lentAddendumOut marks orders sheet queries time room =
     marksElse (marksLayout marks) (addendumOut (marksOf marks) orders sheet queries time room) (replicate room 0)
+
+-- ---- a round: the refusal, and the length of the next log
+abbrev pub roundedLength : Rounded → ℕ
+roundedLength (R.Done n) = n
+roundedLength R.Oversize = 0
+roundedLength R.Broken = 0
+roundedLength R.NoNumbers = 0
+roundedLength R.TooMany = 0
+roundedLength R.NoRoom = 0
+
+abbrev pub roundedNumbers : Rounded → ℕ × ℕ
+roundedNumbers r = (roundedNumber r, roundedLength r)

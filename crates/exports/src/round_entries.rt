@@ -1,18 +1,20 @@
-// The entries of the crates `join` and `intents`. Each returns the refusal's number, 0 where there is none. Marks go in a record of 176 bytes (crate
+// The entries of the crates `join`, `intents` and `rounds`. Each returns the refusal's number, 0 where there is none. Marks go in a record of 176 bytes (crate
 // `marks_record`); a record that is none is refused by 2, after 1 of the sheet.
 ghost use mathlib.Core.Path.{_≡_};
 ghost use lib.ListN.{length, replicate};
 ghost use lib.Seq.{sets};
 ghost use Rattle.join.specs.Join.{joining, joinOut};
 ghost use Rattle.intents.specs.Intents.{reconcilingNumber};
+ghost use Rattle.rounds.specs.Rounds.{roundWith, roundOf, roundOrdersOut, roundPositionsOut, roundAddendumOut, roundLogOut};
 ghost use Rattle.exports.specs.Answer.{numbers, numberAlone, roomNumber, unlessShort, answerNumber, answerBytes};
-ghost use Rattle.exports.specs.RoundAnswer.{joiningNumbers, reconciledBytes, reconcilingBytes, unmarked, lentReconciling, lentAddendumOut};
+ghost use Rattle.exports.specs.RoundAnswer.{joiningNumbers, reconciledBytes, reconcilingBytes, unmarked, lentReconciling, lentAddendumOut, roundedNumbers};
 use crate::book_entries;
 use crate::book_entries::Numbers;
 use crate::recovery_entries;
 use intents::Reconciled;
 use intents::Reconciling;
 use join::Joining;
+use rounds::Rounded;
 use wire::layout::Layout;
 
 fn joining_numbers(j: Joining) -> Numbers
@@ -166,4 +168,85 @@ pub extern "C" fn desk_reconcile_incomplete_intents(
     let room = answer.len();
     recovery_entries::clear_if_short(addendum, 24, room);
     give_reconciling(r, answer)
+}
+
+fn rounded_numbers(r: Rounded) -> Numbers
+    ensures { λ n. ⌜ n ≡ numbers (numberAlone (roundedNumbers r)) ⌝ }
+{
+    match r {
+        Rounded::Done(n) => Numbers {
+            refusal: 0,
+            a: n as u64,
+            b: 0,
+        },
+        Rounded::Oversize => Numbers {
+            refusal: 1,
+            a: 0,
+            b: 0,
+        },
+        Rounded::Broken => Numbers {
+            refusal: 2,
+            a: 0,
+            b: 0,
+        },
+        Rounded::NoNumbers => Numbers {
+            refusal: 8,
+            a: 0,
+            b: 0,
+        },
+        Rounded::TooMany => Numbers {
+            refusal: 13,
+            a: 0,
+            b: 0,
+        },
+        Rounded::NoRoom => Numbers {
+            refusal: 3,
+            a: 0,
+            b: 0,
+        },
+    }
+}
+
+// Entry. A round on a log: recovery at the time `at`, reconciling with entries of the time `time`, and the join of the first `k` entries. In `orders`
+// and `positions` what recovery gave, in `addendum` the addendum, in `joined` the next log: its length, then 0.
+#[no_mangle]
+pub extern "C" fn desk_round(
+    log: &[u8],
+    sheet: &[u8],
+    queries: &[u8],
+    at: i64,
+    time: i64,
+    k: u64,
+    orders: &mut [u8],
+    positions: &mut [u8],
+    addendum: &mut [u8],
+    joined: &mut [u8],
+    answer: &mut [u8],
+) -> u32
+    ensures { λ n. ⌜ n ≡ answerNumber (roundedNumbers (roundOf (roundWith (now (sheet .entry)) (now (queries .entry)) at time k (length (now (orders .entry))) (length (now (positions .entry))) (length (now (addendum .entry))) (length (now (joined .entry)))) (now (log .entry)) .answer) .0) (length (now (answer .entry))) ⌝ }
+    ensures { λ n. ⌜ now (orders .exit) ≡ unlessShort 16 (length (now (answer .entry))) (length (now (orders .entry))) (roundOrdersOut (roundWith (now (sheet .entry)) (now (queries .entry)) at time k (length (now (orders .entry))) (length (now (positions .entry))) (length (now (addendum .entry))) (length (now (joined .entry)))) (now (log .entry))) ⌝ }
+    ensures { λ n. ⌜ now (positions .exit) ≡ unlessShort 16 (length (now (answer .entry))) (length (now (positions .entry))) (roundPositionsOut (roundWith (now (sheet .entry)) (now (queries .entry)) at time k (length (now (orders .entry))) (length (now (positions .entry))) (length (now (addendum .entry))) (length (now (joined .entry)))) (now (log .entry))) ⌝ }
+    ensures { λ n. ⌜ now (addendum .exit) ≡ unlessShort 16 (length (now (answer .entry))) (length (now (addendum .entry))) (roundAddendumOut (roundWith (now (sheet .entry)) (now (queries .entry)) at time k (length (now (orders .entry))) (length (now (positions .entry))) (length (now (addendum .entry))) (length (now (joined .entry)))) (now (log .entry))) ⌝ }
+    ensures { λ n. ⌜ now (joined .exit) ≡ unlessShort 16 (length (now (answer .entry))) (length (now (joined .entry))) (roundLogOut (roundWith (now (sheet .entry)) (now (queries .entry)) at time k (length (now (orders .entry))) (length (now (positions .entry))) (length (now (addendum .entry))) (length (now (joined .entry)))) (now (log .entry))) ⌝ }
+    ensures { λ n. ⌜ now (answer .exit) ≡ answerBytes (roundedNumbers (roundOf (roundWith (now (sheet .entry)) (now (queries .entry)) at time k (length (now (orders .entry))) (length (now (positions .entry))) (length (now (addendum .entry))) (length (now (joined .entry)))) (now (log .entry)) .answer) .1) 0 (length (now (answer .entry))) ⌝ }
+{
+    let r = rounds::round(
+        log,
+        sheet,
+        queries,
+        at,
+        time,
+        k,
+        orders,
+        positions,
+        addendum,
+        joined,
+    );
+    let n = rounded_numbers(r);
+    let room = answer.len();
+    recovery_entries::clear_if_short(orders, 16, room);
+    recovery_entries::clear_if_short(positions, 16, room);
+    recovery_entries::clear_if_short(addendum, 16, room);
+    recovery_entries::clear_if_short(joined, 16, room);
+    book_entries::give(n.refusal, n.a, n.b, answer)
 }

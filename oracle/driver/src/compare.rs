@@ -9,7 +9,8 @@ use oracle::generator::{self, Case, DriftCase, LogCase, RecordsCase, Rng};
 use oracle::judge;
 
 use crate::entries::{
-    Due, Entry, ACTION, CHECK_BOOK, CHECK_SHEET, COMPARE, DRIFT, EQUAL, HELD, JOIN, MAX, RECONCILE, RECOVER, REPLY, STEP, UNJUDGED, VERDICT, WINDOW,
+    Due, Entry, ACTION, CHECK_BOOK, CHECK_SHEET, COMPARE, DRIFT, EQUAL, HELD, JOIN, MAX, RECONCILE, RECOVER, REPLY, ROUND, STEP, UNJUDGED, VERDICT,
+    WINDOW,
 };
 use crate::question::{Fault, Question, Tally, FAULTS};
 use crate::smallest::{print, smallest};
@@ -116,6 +117,8 @@ fn of_log(kind: &str, case: &LogCase, rng: &mut Rng) -> Vec<Question> {
         Question::new(&MAX, vec![book.clone()], vec![]),
         Question::new(&RECOVER, vec![book.clone()], vec![case.time as u64]).with_rooms(case.rooms[..2].to_vec()),
         Question::new(&REPLY, vec![book.clone(), sheet.clone()], vec![]),
+        Question::new(&ROUND, vec![book.clone(), sheet.clone(), case.queries.clone()], vec![case.time as u64, case.entry_time as u64, case.k])
+            .with_rooms([&case.rooms[..2], &case.rooms[3..]].concat()),
     ];
     out.extend(windows(case).into_iter().map(|window| Question::new(&WINDOW, vec![book.clone(), window], vec![])));
     if let Ok(said) = judge::reconstruct_state(book, case.time, usize::MAX, usize::MAX) {

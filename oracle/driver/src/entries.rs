@@ -166,6 +166,20 @@ fn reconciled(inputs: &[Vec<u8>], times: &[u64], rooms: &[usize]) -> Result<Due,
     Ok(Due { refusal: 0, outputs: vec![said.book], answer })
 }
 
+/// Recovery, reconciling on what it gave, and the join; a call that is refused refuses the round.
+fn round(inputs: &[Vec<u8>], said: &[u64], rooms: &[usize]) -> Result<Due, u32> {
+    let recovered = recover(&inputs[..1], &said[..1], &rooms[..2]);
+    if recovered.refusal != 0 {
+        return Err(recovered.refusal);
+    }
+    let marks = marks(&recovered.answer[..176])?;
+    let orders = &recovered.outputs[0];
+    let addendum = judge::reconcile_incomplete_intents(&marks, orders, &inputs[1], &inputs[2], said[1] as i64, rooms[2])?.book;
+    let joined = judge::join(&inputs[0], &addendum, said[2], rooms[3])?;
+    let answer = numbers(&[joined.len() as u64, 0]);
+    Ok(Due { refusal: 0, outputs: [recovered.outputs, vec![addendum, joined]].concat(), answer })
+}
+
 fn verdict(inputs: &[Vec<u8>]) -> Due {
     let (refusal, event, checkpoint) = judge::validate_checkpoints_from_parsed(&inputs[0]);
     Due { refusal, outputs: Vec::new(), answer: numbers(&[event as u64, checkpoint as u64]) }
@@ -334,4 +348,15 @@ pub static RECONCILE: Entry = Entry {
     held: false,
     due: |inputs, numbers, rooms| reconciled(inputs, numbers, rooms).unwrap_or_else(refused),
     call: library::desk_reconcile_incomplete_intents,
+};
+
+pub static ROUND: Entry = Entry {
+    name: "desk_round",
+    inputs: &["book", "sheet", "queries"],
+    numbers: &["at", "time", "k"],
+    outputs: 4,
+    answer: TWO,
+    held: false,
+    due: |inputs, numbers, rooms| round(inputs, numbers, rooms).unwrap_or_else(refused),
+    call: library::desk_round,
 };

@@ -68,3 +68,4 @@ entry!(desk_reconcile(positions, targets, prices; equity: i64; entries, answer))
 entry!(desk_held_value(positions, prices; ; answer));
 entry!(desk_join(a, b; k: u64; out, answer));
 entry!(desk_reconcile_incomplete_intents(marks, orders, sheet, queries; time: i64; addendum, answer));
+entry!(desk_round(log, sheet, queries; at: i64, time: i64, k: u64; orders, positions, addendum, joined, answer));

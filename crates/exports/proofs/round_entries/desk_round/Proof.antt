@@ -1,0 +1,95 @@
+-- `exports::round_entries::desk_round` meets its contract, by those of the functions it calls. Assumes nothing.
+use borrow.Author.Needs.{needs}
+use Rattle.exports.proofs.round_entries.desk_round.Statement.{statement}
+use Rattle.exports.proofs.round_entries.desk_round.Tie as tie
+use mathlib.Core.Path.{ap, _∙_}
+use lib.ListN.{length}
+use mir.Syntax.{w64}
+use mir.ValLaws.{toZ-ofZ}
+use Rattle.rounds.specs.declared.Rounded.{Rounded}
+use Rattle.exports.specs.Answer.{numbers, numberAlone}
+use Rattle.exports.specs.RoundAnswer.{roundedNumbers}
+use Rattle.exports.proofs.Given.{of-same}
+use Rattle.exports.proofs.Lent.{beside}
+
+round-requires : tie.Need-round-requires
+round-requires c κs = search needs
+
+rounded-numbers-requires : tie.Need-rounded-numbers-requires
+rounded-numbers-requires c κs = search needs
+
+clear-if-short-requires : tie.Need-clear-if-short-requires
+clear-if-short-requires c κs = search needs
+
+clear-if-short-requires-2 : tie.Need-clear-if-short-requires-2
+clear-if-short-requires-2 c κs = search needs
+
+clear-if-short-requires-3 : tie.Need-clear-if-short-requires-3
+clear-if-short-requires-3 c κs = search needs
+
+clear-if-short-requires-4 : tie.Need-clear-if-short-requires-4
+clear-if-short-requires-4 c κs = search needs
+
+give-requires : tie.Need-give-requires
+give-requires c κs = search needs
+
+same-length : tie.Need-same-length
+same-length c = search needs
+
+same-length-2 : tie.Need-same-length-2
+same-length-2 c = search needs
+
+same-length-3 : tie.Need-same-length-3
+same-length-3 c = search needs
+
+same-length-4 : tie.Need-same-length-4
+same-length-4 c = search needs
+
+same-length-5 : tie.Need-same-length-5
+same-length-5 c = search needs
+
+returns : tie.Need-returns
+returns c =
+    let give = c .before .before in
+    let clear4 = give .before .before .before .before in
+    let clear3 = clear4 .before .before .before .before in
+    let clear2 = clear3 .before .before .before .before in
+    let clear = clear2 .before .before .before .before in
+    let rounded = clear .before .before in
+    let round = rounded .before .before .before .before .before .before .before .before .before in
+    let start = round .before .before .before .before .before .before .before .before .before .before .before .before .before in
+    let room = length (start .args .answer .now) in
+    let r = round .round in
+    let e = rw (toZ-ofZ w64 (start .args .at) (start .fits .at), toZ-ofZ w64 (start .args .time) (start .fits .time)) at (r .ensures) in
+    let g = of-same room (rounded .rounded-numbers .ensures ∙ ap (λ (x : Rounded). numbers (numberAlone (roundedNumbers x))) (e .0)) (give .give .ensures) in
+    let k = r .kept .1 .1 .1 .1 .1 .1 in (
+      g .0,
+      (
+        beside 16 room _ _ _ _ _ (clear .clear-if-short .ensures) (k .0) (e .1),
+        (
+          beside 16 room _ _ _ _ _ (clear2 .clear-if-short2 .ensures) (k .1 .0) (e .2),
+          (
+            beside 16 room _ _ _ _ _ (clear3 .clear-if-short3 .ensures) (k .1 .1 .0) (e .3),
+            (beside 16 room _ _ _ _ _ (clear4 .clear-if-short4 .ensures) (k .1 .1 .1 .0) (e .4), g .1),
+          ),
+        ),
+      ),
+    )
+
+pub desk-round-spec : {M : Type 1} → statement M
+desk-round-spec =
+    tie.close
+    (tie.spec
+    round-requires
+    rounded-numbers-requires
+    clear-if-short-requires
+    clear-if-short-requires-2
+    clear-if-short-requires-3
+    clear-if-short-requires-4
+    give-requires
+    same-length
+    same-length-2
+    same-length-3
+    same-length-4
+    same-length-5
+    returns)

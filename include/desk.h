@@ -25,7 +25,7 @@ extern "C" {
 #endif
 
 enum { DESK_MARKS = 176, DESK_ORDER = 64, DESK_POSITION = 32, DESK_DISCREPANCY = 48, DESK_DRIFT_ENTRY = 64 };
-enum { DESK_RECOVERED = 200, DESK_ANSWER = 16 };
+enum { DESK_RECOVERED = 200, DESK_RECONCILED = 24, DESK_ANSWER = 16 };
 enum { DESK_RESTART = 0, DESK_RESUME = 1, DESK_MANUAL_REVIEW = 2 };
 
 /* ---- layouts: 0, 1 or 2 */
@@ -70,6 +70,22 @@ uint32_t desk_compare_broker_state(const uint8_t *marks, size_t marks_len, const
                                    size_t positions_len, const uint8_t *sheet, size_t sheet_len, uint8_t *report, size_t report_len,
                                    uint8_t *answer, size_t answer_len);
 
+/* ---- reconciling of open order intents by the sheet and the queries (0 answered, any other byte failed): the addendum book of the entries that settle
+ * them, at `time`. 8 where the numbers do not suffice. answer, DESK_RECONCILED bytes: u64 entries, u64 intents not reached, u64 length of the addendum. */
+uint32_t desk_reconcile_incomplete_intents(const uint8_t *marks, size_t marks_len, const uint8_t *orders, size_t orders_len, const uint8_t *sheet,
+                                           size_t sheet_len, const uint8_t *queries, size_t queries_len, int64_t time, uint8_t *addendum,
+                                           size_t addendum_len, uint8_t *answer, size_t answer_len);
+
+/* ---- book A and the first k events of B, with both row tables and both texts; 13 where B has fewer. answer: u64 length of the joined book, u64 0 */
+uint32_t desk_join(const uint8_t *a, size_t a_len, const uint8_t *b, size_t b_len, uint64_t k, uint8_t *out, size_t out_len, uint8_t *answer,
+                   size_t answer_len);
+
+/* ---- a round on a log: recovery at the time `at`, reconciling with entries of the time `time`, and the join of the first k entries.
+ * answer: u64 length of the next log, which begins `joined`; u64 0. Refused, the log is as it was. */
+uint32_t desk_round(const uint8_t *log, size_t log_len, const uint8_t *sheet, size_t sheet_len, const uint8_t *queries, size_t queries_len, int64_t at,
+                    int64_t time, uint64_t k, uint8_t *orders, size_t orders_len, uint8_t *positions, size_t positions_len, uint8_t *addendum,
+                    size_t addendum_len, uint8_t *joined, size_t joined_len, uint8_t *answer, size_t answer_len);
+
 /* ---- drift: positions of 32 bytes, targets and prices of 24, entries of 64; 11 a weight, 12 a product or share difference.
  * answer: u64 count, u64 bits of the tracking error in per cent. */
 uint32_t desk_reconcile(const uint8_t *positions, size_t positions_len, const uint8_t *targets, size_t targets_len, const uint8_t *prices,
@@ -91,8 +107,9 @@ uint64_t desk_nearest_i64(int64_t n);
 uint64_t desk_nearest_u64(uint64_t n);
 uint64_t desk_sqrt(uint64_t bits);
 
-/* ---- an i32 ibkr_id as the u64 that an OrderId is compared with */
+/* ---- an i32 ibkr_id as the u64 that an OrderId is compared with, and the i32 that an i64 is stored as */
 uint64_t desk_sign_extended(int32_t ibkr_id);
+int32_t desk_truncated_i32(int64_t ibkr_id);
 
 #ifdef __cplusplus
 }

@@ -1,7 +1,8 @@
 // Little-endian numbers in lent bytes: read from a slice, written into one, and whole slices copied, cleared and compared.
 //
-// Nothing here has a `requires`. Reading past the end gives zeros, and what would be written past the end is dropped. The contracts cite
-// `specs/Le.antt`; `specs/Table.antt` and the laws of `proofs/` are for the crates that read and write tables of records.
+// Reading past the end gives zeros, and what would be written past the end is dropped. Only `rest` and the `whole_` readers have a `requires`:
+// they read bytes that a caller knows to be there, with no test. The contracts cite `specs/Le.antt`; `specs/Table.antt` and the laws of
+// `proofs/` are for the crates that read and write tables of records.
 pub mod layout;
 
 ghost use mathlib.Core.Path.{_≡_};

@@ -1,11 +1,12 @@
 // Little-endian numbers in lent bytes: read from a slice, written into one, and whole slices copied, cleared and compared.
 //
-// Nothing here has a `requires`. Reading past the end gives zeros, and what would be written past the end is dropped. The contracts cite
-// `specs/Le.antt`; `specs/Table.antt` and the laws of `proofs/` are for the crates that read and write tables of records.
+// Reading past the end gives zeros, and what would be written past the end is dropped. Only `rest` and the `whole_` readers have a `requires`:
+// they read bytes that a caller knows to be there, with no test. The contracts cite `specs/Le.antt`; `specs/Table.antt` and the laws of
+// `proofs/` are for the crates that read and write tables of records.
 pub mod layout;
 
 ghost use mathlib.Core.Path.{_≡_};
-ghost use Prim.Native.Nat.{_+_, _*_};
+ghost use Prim.Native.Nat.{_+_, _*_, _≤_};
 ghost use lib.ListN.{length, take, drop, replicate};
 ghost use lib.Seq.{sets};
 ghost use mir.Syntax.{w32, w64};
@@ -40,6 +41,56 @@ fn four(x0: u8, x1: u8, x2: u8, x3: u8) -> u32
     (x0 as u32) + 0x100 * (x1 as u32) + 0x1_0000 * (x2 as u32) + 0x100_0000 * (x3 as u32)
 }
 
+fn eight(x0: u8, x1: u8, x2: u8, x3: u8, x4: u8, x5: u8, x6: u8, x7: u8) -> u64
+    ensures { λ r. ⌜ r ≡ x0 + 0x100 * x1 + 0x1_0000 * x2 + 0x100_0000 * x3 + 0x1_0000_0000 * x4 + 0x100_0000_0000 * x5 + 0x1_0000_0000_0000 * x6 + 0x100_0000_0000_0000 * x7 ⌝ }
+{
+    (x0 as u64)
+        + 0x100 * (x1 as u64)
+        + 0x1_0000 * (x2 as u64)
+        + 0x100_0000 * (x3 as u64)
+        + 0x1_0000_0000 * (x4 as u64)
+        + 0x100_0000_0000 * (x5 as u64)
+        + 0x1_0000_0000_0000 * (x6 as u64)
+        + 0x100_0000_0000_0000 * (x7 as u64)
+}
+
+// Of bytes that are known to be there, read with no test: what is left from `at` on, and the number in the first four and eight bytes.
+pub fn rest(s: &[u8], at: usize) -> &[u8]
+    requires { ⌜ at ≤ length (now s) ⌝ }
+    ensures { λ r. ⌜ now r ≡ drop at (now (s .entry)) ⌝ }
+{
+    &s[at..]
+}
+
+pub fn whole_u32(s: &[u8]) -> u32
+    requires { ⌜ 4 ≤ length (now s) ⌝ }
+    ensures { λ r. ⌜ r ≡ le 4 (now (s .entry)) ⌝ }
+{
+    four(s[0], s[1], s[2], s[3])
+}
+
+pub fn whole_u64(s: &[u8]) -> u64
+    requires { ⌜ 8 ≤ length (now s) ⌝ }
+    ensures { λ r. ⌜ r ≡ le 8 (now (s .entry)) ⌝ }
+{
+    eight(s[0], s[1], s[2], s[3], s[4], s[5], s[6], s[7])
+}
+
+// Such a number at a place.
+pub fn whole_u32_at(s: &[u8], at: usize) -> u32
+    requires { ⌜ at + 4 ≤ length (now s) ⌝ }
+    ensures { λ r. ⌜ r ≡ le 4 (drop at (now (s .entry))) ⌝ }
+{
+    whole_u32(rest(s, at))
+}
+
+pub fn whole_u64_at(s: &[u8], at: usize) -> u64
+    requires { ⌜ at + 8 ≤ length (now s) ⌝ }
+    ensures { λ r. ⌜ r ≡ le 8 (drop at (now (s .entry))) ⌝ }
+{
+    whole_u64(rest(s, at))
+}
+
 // The first byte.
 pub fn u8_of(s: &[u8]) -> u8
     ensures { λ r. ⌜ r ≡ le 1 (now (s .entry)) ⌝ }
@@ -62,7 +113,7 @@ pub fn u32_of(s: &[u8]) -> u32
     ensures { λ r. ⌜ r ≡ le 4 (now (s .entry)) ⌝ }
 {
     if 4 <= s.len() {
-        return four(s[0], s[1], s[2], s[3]);
+        return whole_u32(s);
     }
     let low = u16_of(s) as u32;
     let high = u16_of(from(s, 2)) as u32;
@@ -74,16 +125,14 @@ pub fn u64_of(s: &[u8]) -> u64
     ensures { λ r. ⌜ r ≡ le 8 (now (s .entry)) ⌝ }
 {
     if 8 <= s.len() {
-        let low = four(s[0], s[1], s[2], s[3]) as u64;
-        let high = four(s[4], s[5], s[6], s[7]) as u64;
-        return low + 0x1_0000_0000 * high;
+        return whole_u64(s);
     }
     let low = u32_of(s) as u64;
     let high = u32_of(from(s, 4)) as u64;
     low + 0x1_0000_0000 * high
 }
 
-// A number at a place: the byte, and two, four and eight of them.
+// A number at a place: the byte, and two, four and eight of them. One test serves the last two, as above.
 pub fn u8_at(s: &[u8], at: usize) -> u8
     ensures { λ r. ⌜ r ≡ le 1 (drop at (now (s .entry))) ⌝ }
 {
@@ -99,12 +148,22 @@ pub fn u16_at(s: &[u8], at: usize) -> u16
 pub fn u32_at(s: &[u8], at: usize) -> u32
     ensures { λ r. ⌜ r ≡ le 4 (drop at (now (s .entry))) ⌝ }
 {
+    if 4 <= s.len() {
+        if at <= s.len() - 4 {
+            return whole_u32_at(s, at);
+        }
+    }
     u32_of(from(s, at))
 }
 
 pub fn u64_at(s: &[u8], at: usize) -> u64
     ensures { λ r. ⌜ r ≡ le 8 (drop at (now (s .entry))) ⌝ }
 {
+    if 8 <= s.len() {
+        if at <= s.len() - 8 {
+            return whole_u64_at(s, at);
+        }
+    }
     u64_of(from(s, at))
 }
 

@@ -1,32 +1,15 @@
--- `wire::u32_of`: the number by its bytes, and by its halves.
+-- `wire::u32_of`: the whole number, and the number by its halves.
 use borrow.Author.Needs.{needs}
 use denote.Ref.{now}
-use native.Mathlib.Omega.{arith}
-use Rattle.wire.specs.Le.{le}
-use Rattle.wire.proofs.Numbers.{le-at, le-add}
+use Rattle.wire.proofs.Numbers.{le-add}
 use Rattle.wire.proofs.u32_of.Statement.{statement}
 use Rattle.wire.proofs.u32_of.Tie as tie
 
-shared-slice-read-four : tie.Need-shared-slice-read-four
-shared-slice-read-four c = search needs
-
-shared-slice-read-four-2 : tie.Need-shared-slice-read-four-2
-shared-slice-read-four-2 c = search needs
-
-shared-slice-read-four-3 : tie.Need-shared-slice-read-four-3
-shared-slice-read-four-3 c = search needs
-
-shared-slice-read-four-4 : tie.Need-shared-slice-read-four-4
-shared-slice-read-four-4 c = search needs
-
-four-requires : tie.Need-four-requires
-four-requires c κs = search needs
+whole-u32-requires : tie.Need-whole-u32-requires
+whole-u32-requires c κs = search needs
 
 returns : tie.Need-returns
-unfolding le
-returns c =
-    let s = now (c .before .before .before .before .before .before .before .args .s) in
-    omega (arith, le-at 3 0 s, le-at 2 1 s, le-at 1 2 s, le-at 0 3 s)
+returns c = search needs
 
 u16-of-requires : tie.Need-u16-of-requires
 u16-of-requires c κs = search needs
@@ -56,11 +39,7 @@ pub u32-of-spec : {M : Type 1} → statement M
 u32-of-spec =
     tie.close
     (tie.spec
-    shared-slice-read-four
-    shared-slice-read-four-2
-    shared-slice-read-four-3
-    shared-slice-read-four-4
-    four-requires
+    whole-u32-requires
     returns
     u16-of-requires
     cast-low

@@ -31,23 +31,27 @@ pub fn len_of(x: u64) -> u64
     (71 - u64::leading_zeros(x) as u64) / 8
 }
 
-// Where x stands, or would stand, among the first n: by halves.
+// Where x stands, or would stand, among the first n: by halves, by the keys without their last bit, which one test behind the loop reads. How often it
+// halves depends on n only, and what it reads is reckoned with and not branched on.
 fn place(words: &[u64], n: usize, x: u64) -> usize
-    requires { ⌜ n ≤ length (now words) ⌝ }
+    requires { ⌜ n ≤ length (now words) ⌝ ∗ ⌜ Rising key (take n (now words)) ⌝ }
     ensures { λ r. ⌜ Place (now (words .entry)) n x r ⌝ }
 {
     let k = key_of(x);
+    let mark = 0x7fff_ffff_ffff_ffff + k / 2;
     let mut low = 0;
-    let mut high = n;
-    while low < high {
-        let mid = low + (high - low) / 2;
-        if key_of(words[mid]) < k {
-            low = mid + 1;
-        } else {
-            high = mid;
-        }
+    let mut size = n;
+    while 0 < size {
+        let half = size - size / 2;
+        let below = (mark - key_of(words[low + half - 1]) / 2) / 0x8000_0000_0000_0000;
+        low += half * (below as usize);
+        size = size / 2;
     }
-    low
+    if low < n {
+        low + ((key_of(words[low]) < k) as usize)
+    } else {
+        low
+    }
 }
 
 // Whether x stands at p.

@@ -7,7 +7,7 @@ ghost use Rattle.wire.specs.Table.{records};
 ghost use Rattle.drift.specs.Rows.{rowOf, heldIn, targetsIn, pricesIn};
 ghost use Rattle.drift.specs.Symbols.{inserted};
 ghost use Rattle.drift.specs.Report.{linesOf};
-ghost use Rattle.drift.specs.Code.{swapped, key, keyFirst, Rising, Place, found, Gathered, Marked, Noted, lenOf, linesAt, SoundLists, Blank};
+ghost use Rattle.drift.specs.Code.{swapped, key, keyFirst, Rising, Place, found, Gathered, Marked, Noted, lenOf, linesAt, SoundLists, Blank, Filled};
 
 // The four low bytes of x the other way round.
 fn four(x: u64) -> u64
@@ -130,7 +130,7 @@ fn last_values(list: &[u8], width: usize, count: usize, words: &[u64], n: usize,
     }
 }
 
-// The symbols that are held or targeted and what was last said of each, in four arrays; how many they are. The arrays are zero before.
+// The symbols that are held or targeted and what was last said of each, in four arrays, which are zero before; how many they are.
 pub fn lines(
     positions: &[u8],
     targets: &[u8],
@@ -140,8 +140,8 @@ pub fn lines(
     weights: &mut [u64],
     costs: &mut [u64],
 ) -> usize
-    requires { ⌜ SoundLists (now positions) (now targets) (now prices) ⌝ ∗ ⌜ Blank (now words) (now quantities) (now weights) (now costs) ⌝ }
-    ensures { λ r. ⌜ (r ≤ 2048) × (linesAt (now (words .exit)) (now (quantities .exit)) (now (weights .exit)) (now (costs .exit)) r ≡ linesOf (heldIn (now (positions .entry))) (targetsIn (now (targets .entry))) (pricesIn (now (prices .entry)))) ⌝ }
+    requires { ⌜ SoundLists (now positions) (now targets) (now prices) ⌝ ∗ ⌜ Blank (now positions) (now targets) (now words) (now quantities) (now weights) (now costs) ⌝ }
+    ensures { λ r. ⌜ Filled r (now (words .exit)) (now (quantities .exit)) (now (weights .exit)) (now (costs .exit)) × (linesAt (now (words .exit)) (now (quantities .exit)) (now (weights .exit)) (now (costs .exit)) r ≡ linesOf (heldIn (now (positions .entry))) (targetsIn (now (targets .entry))) (pricesIn (now (prices .entry)))) ⌝ }
 {
     let held = positions.len() / 32;
     let wanted = targets.len() / 24;

@@ -66,16 +66,24 @@ fn has(words: &[u64], n: usize, p: usize, x: u64) -> bool
     }
 }
 
+// Moves the first n elements one place up. It has no other start, so that it is compiled to one move of memory.
+fn move_up(words: &mut [u64], n: usize)
+    requires { ⌜ n < length (now words) ⌝ }
+    ensures { λ _. ⌜ now (words .exit) ≡ take 1 (now (words .entry)) ++ (take n (now (words .entry)) ++ drop (suc n) (now (words .entry))) ⌝ }
+{
+    let mut j = n;
+    while 0 < j {
+        words[j] = words[j - 1];
+        j -= 1;
+    }
+}
+
 // Moves the elements from p up to n, excluding it, one place up.
 fn open(words: &mut [u64], p: usize, n: usize)
     requires { ⌜ p ≤ n ⌝ ∗ ⌜ n < length (now words) ⌝ }
     ensures { λ _. ⌜ now (words .exit) ≡ take (suc p) (now (words .entry)) ++ (take (n - p) (drop p (now (words .entry))) ++ drop (suc n) (now (words .entry))) ⌝ }
 {
-    let mut j = n;
-    while p < j {
-        words[j] = words[j - 1];
-        j -= 1;
-    }
+    move_up(&mut words[p..], n - p);
 }
 
 // x put in its place among the first n; the answer is how many are taken then.

@@ -90,7 +90,15 @@ fn report_in(
     requires { ⌜ SoundLists (now positions) (now targets) (now prices) ⌝ ∗ ⌜ Blank (now positions) (now targets) (now words) (now quantities) (now weights) (now costs) ⌝ ∗ ⌜ now entries ≡ replicate (length (now entries)) 0 ⌝ }
     ensures { λ r. ⌜ Reported r (now (entries .exit)) (linesOf (heldIn (now (positions .entry))) (targetsIn (now (targets .entry))) (pricesIn (now (prices .entry)))) equity (length (now (entries .entry))) ⌝ }
 {
-    let n = words::lines(positions, targets, prices, words, quantities, weights, costs);
+    let n = words::lines(
+        positions,
+        targets,
+        prices,
+        words,
+        quantities,
+        weights,
+        costs,
+    );
     write_entries(words, quantities, weights, costs, n, equity, entries)
 }
 

@@ -1,12 +1,12 @@
 -- The arrays hold a line for each symbol that is held or targeted, in symbol order.
 -- Assumes nothing.
-use Prim.Native.Nat.{ℕ, _+_, _≤_, _<_}
+use Prim.Native.Nat.{ℕ, _+_, _/_, _≤_, _<_}
 use mathlib.Core.Path.{_≡_, refl, sym, ap, _∙_}
 use mathlib.Core.List.{List, [], _∷_, _++_, map}
 use native.Mathlib.Nat.{zero-add}
 use native.Mathlib.Omega.{arith}
 use lib.Ieee.{binary64, ofBits}
-use lib.ListN.{length, take, getD, replicate, length-map, List·getD-map, getD-replicate}
+use lib.ListN.{length, take, getD, replicate, length-map, List·getD-map, getD-replicate, length-replicate}
 use lib.Seq.{length-take-le, getD-take}
 use mir.Syntax.{w64}
 use mir.Val.{toZ}
@@ -16,7 +16,7 @@ use Rattle.symbol.specs.declared.Symbol.{Symbol}
 use Rattle.drift.specs.Rows.{valued}
 use Rattle.drift.specs.Symbols.{keys, sortedWith, symbolsOf}
 use Rattle.drift.specs.Report.{lineOf, linesOf}
-use Rattle.drift.specs.Code.{keyFirst, symbolAt, wordsOf, lastBits, Noted, lineAt, run}
+use Rattle.drift.specs.Code.{keyFirst, symbolAt, wordsOf, lastBits, Noted, lineAt, run, Blank}
 use Rattle.drift.proofs.Ordered.{each-sorted, each-append, each-at, sorted-append, map-sorted}
 use Rattle.drift.proofs.Sized.{Sized, sized-at}
 use Rattle.drift.proofs.Looked.{words-are, keys-sized, before-key, last-same, run-map}
@@ -47,9 +47,9 @@ module _ (rp rt rq : List (Symbol × ℕ)) (ps : Each (λ (r : Symbol × ℕ). S
       each-sorted before Sized [] (keys (valued (toZ w64) rp) ++ keys (valued (ofBits binary64) rt)) none
       (each-append Sized (keys (valued (toZ w64) rp)) (keys (valued (ofBits binary64) rt)) (keys-sized (toZ w64) rp ps) (keys-sized (ofBits binary64) rt ts))
 
-  module _ (ws us bs cs : List ℕ) (n : ℕ) (h : n ≤ length ws) (m : n ≤ 2048)
+  module _ (ws us bs cs : List ℕ) (n : ℕ) (m : ℕ) (h : n ≤ length ws) (o : n ≤ m)
       (w : take n ws ≡ sortedWith keyFirst (sortedWith keyFirst [] (wordsOf rp)) (wordsOf rt))
-      (a : Noted ws n rp (replicate 2048 0) us) (b : Noted ws n rt (replicate 2048 0) bs) (c : Noted ws n rq (replicate 2048 0) cs) where
+      (a : Noted ws n rp (replicate m 0) us) (b : Noted ws n rt (replicate m 0) bs) (c : Noted ws n rq (replicate m 0) cs) where
     size : length all ≡ n
     size = sym (length-map all wordOf) ∙ ap length (all-words ∙ sym w) ∙ length-take-le n ws h
 
@@ -58,9 +58,9 @@ module _ (rp rt rq : List (Symbol × ℕ)) (ps : Each (λ (r : Symbol × ℕ). S
     word-at k l =
         sym (getD-take n ws k 0 l) ∙ ap (λ (t : List ℕ). getD t k 0) (w ∙ sym all-words) ∙ List·getD-map wordOf all k nobody
 
-    noted : (rs : List (Symbol × ℕ)) (vs : List ℕ) → Noted ws n rs (replicate 2048 0) vs → (k : ℕ) → k < n
+    noted : (rs : List (Symbol × ℕ)) (vs : List ℕ) → Noted ws n rs (replicate m 0) vs → (k : ℕ) → k < n
         → getD vs k 0 ≡ lastBits 0 (getD all k nobody .word) rs
-    noted rs vs t k l = t .each k l ∙ rw (getD-replicate {A = ℕ} 2048 k 0 0 (omega arith), word-at k l)
+    noted rs vs t k l = t .each k l ∙ rw (getD-replicate {A = ℕ} m k 0 0 (omega arith), word-at k l)
 
     one : (k : ℕ) → k < n → lineAt ws us bs cs k ≡ lineOf (valued (toZ w64) rp) (valued (ofBits binary64) rt) (valued (toZ w64) rq) (getD all k nobody)
     one k l =
@@ -80,3 +80,11 @@ module _ (rp rt rq : List (Symbol × ℕ)) (ps : Each (λ (r : Symbol × ℕ). S
         ap (run (lineAt ws us bs cs) 0) (sym size)
         ∙ run-map (lineAt ws us bs cs) (lineOf (valued (toZ w64) rp) (valued (ofBits binary64) rt) (valued (toZ w64) rq)) nobody all 0
         (λ i l. ap (lineAt ws us bs cs) (zero-add i) ∙ one i (rw (← size) l))
+
+-- ---- arrays of m zeros have room
+pub blank : (m : ℕ) (positions targets : List ℕ) → length positions / 32 + length targets / 24 ≤ m
+    → Blank positions targets (replicate m 0) (replicate m 0) (replicate m 0) (replicate m 0)
+blank m positions targets h =
+    let e : length (replicate {A = ℕ} m 0) ≡ m = length-replicate {A = ℕ} m 0 in
+    let z : replicate {A = ℕ} m 0 ≡ replicate {A = ℕ} (length (replicate {A = ℕ} m 0)) 0 = ap (λ (k : ℕ). replicate {A = ℕ} k 0) (sym e) in
+    record { room = rw e h; quantities = z; weights = z; costs = z }

@@ -109,24 +109,25 @@ run f k (suc n) = f k ∷ run f (k + 1) n
 abbrev pub linesAt : List ℕ → List ℕ → List ℕ → List ℕ → ℕ → List Line
 linesAt ws qs ts ps n = run (lineAt ws qs ts ps) 0 n
 
--- ---- what the code that fills the arrays and reads them is given: lists that are sound, arrays of 2,048 that are zero, n lines
+-- ---- what the code that fills the arrays and reads them is given: lists that are sound, arrays that are zero and have room for a symbol of each row
+-- held or targeted, n lines
 pub record SoundLists (positions targets prices : List ℕ) : Type 0 where
   pub held : rowsLayout 32 positions ≡ Sound
   pub wanted : rowsLayout 24 targets ≡ Sound
   pub priced : rowsLayout 24 prices ≡ Sound
 
-pub record Blank (ws qs ts ps : List ℕ) : Type 0 where
-  pub words : ws ≡ replicate 2048 0
-  pub quantities : qs ≡ replicate 2048 0
-  pub weights : ts ≡ replicate 2048 0
-  pub costs : ps ≡ replicate 2048 0
+pub record Blank (positions targets ws qs ts ps : List ℕ) : Type 0 where
+  pub room : length positions / 32 + length targets / 24 ≤ length ws
+  pub quantities : qs ≡ replicate (length ws) 0
+  pub weights : ts ≡ replicate (length ws) 0
+  pub costs : ps ≡ replicate (length ws) 0
 
 pub record Filled (n : ℕ) (ws qs ts ps : List ℕ) : Type 0 where
   pub most : n ≤ 2048
-  pub words : length ws ≡ 2048
-  pub quantities : length qs ≡ 2048
-  pub weights : length ts ≡ 2048
-  pub costs : length ps ≡ 2048
+  pub words : n ≤ length ws
+  pub quantities : n ≤ length qs
+  pub weights : n ≤ length ts
+  pub costs : n ≤ length ps
 
 -- ---- a sum of i64s, each 2 ^ 63 more than it is
 abbrev pub raised : ℤ → ℕ

@@ -7,7 +7,7 @@ ghost use Rattle.wire.specs.declared.layout.Layout.the-variants.{Sound};
 ghost use Rattle.drift.specs.Rows.{heldIn, pricesIn, rowsLayout};
 ghost use Rattle.drift.specs.Report.{linesOf};
 ghost use Rattle.drift.specs.Value.{worth, worthOf, valueOf, heldOf};
-ghost use Rattle.drift.specs.Code.{linesAt, wholeOf, raised, lowered};
+ghost use Rattle.drift.specs.Code.{linesAt, wholeOf, raised, lowered, Blank};
 use crate::rows;
 use crate::whole;
 use crate::whole::Whole;
@@ -72,7 +72,7 @@ fn lower(high: u64, low: u64, n: usize) -> Whole
 
 // The total of the lines in the arrays. Each product is taken 2^63 above itself and added by halves, so that only the total is held to i64.
 fn sum_worth(quantities: &[u64], costs: &[u64], n: usize) -> Held
-    requires { ⌜ n ≤ 2048 ⌝ ∗ ⌜ length (now quantities) ≡ 2048 ⌝ ∗ ⌜ length (now costs) ≡ 2048 ⌝ }
+    requires { ⌜ n ≤ 2048 ⌝ ∗ ⌜ n ≤ length (now quantities) ⌝ ∗ ⌜ n ≤ length (now costs) ⌝ }
     ensures { λ r. ⌜ r ≡ valueOf (map worth (linesAt [] (now (quantities .entry)) [] (now (costs .entry)) n)) ⌝ }
 {
     let mut high = 0u64;
@@ -96,25 +96,61 @@ fn sum_worth(quantities: &[u64], costs: &[u64], n: usize) -> Held
     }
 }
 
-// The value of lists that are sound.
+// The value of lists that are sound, by four arrays that are zero.
+fn value_in(
+    positions: &[u8],
+    prices: &[u8],
+    words: &mut [u64],
+    quantities: &mut [u64],
+    weights: &mut [u64],
+    costs: &mut [u64],
+) -> Held
+    requires { ⌜ rowsLayout 32 (now positions) ≡ Sound ⌝ ∗ ⌜ rowsLayout 24 (now prices) ≡ Sound ⌝ ∗ ⌜ Blank (now positions) [] (now words) (now quantities) (now weights) (now costs) ⌝ }
+    ensures { λ r. ⌜ r ≡ valueOf (map worth (linesOf (heldIn (now (positions .entry))) [] (pricesIn (now (prices .entry))))) ⌝ }
+{
+    let n = words::lines(
+        positions,
+        wire::from(prices, prices.len()),
+        prices,
+        words,
+        quantities,
+        weights,
+        costs,
+    );
+    sum_worth(quantities, costs, n)
+}
+
+// The value of lists that are sound. A short list is worked on in short arrays.
 fn value(positions: &[u8], prices: &[u8]) -> Held
     requires { ⌜ rowsLayout 32 (now positions) ≡ Sound ⌝ ∗ ⌜ rowsLayout 24 (now prices) ≡ Sound ⌝ }
     ensures { λ r. ⌜ r ≡ valueOf (map worth (linesOf (heldIn (now (positions .entry))) [] (pricesIn (now (prices .entry))))) ⌝ }
 {
-    let mut words = [0u64; 2048];
-    let mut quantities = [0u64; 2048];
-    let mut weights = [0u64; 2048];
-    let mut costs = [0u64; 2048];
-    let n = words::lines(
+    if positions.len() / 32 <= 32 {
+        let mut words = [0u64; 32];
+        let mut quantities = [0u64; 32];
+        let mut weights = [0u64; 32];
+        let mut costs = [0u64; 32];
+        return value_in(
+            positions,
+            prices,
+            &mut words,
+            &mut quantities,
+            &mut weights,
+            &mut costs,
+        );
+    }
+    let mut words = [0u64; 1024];
+    let mut quantities = [0u64; 1024];
+    let mut weights = [0u64; 1024];
+    let mut costs = [0u64; 1024];
+    value_in(
         positions,
-        wire::from(prices, prices.len()),
         prices,
         &mut words,
         &mut quantities,
         &mut weights,
         &mut costs,
-    );
-    sum_worth(&quantities, &costs, n)
+    )
 }
 
 // Entry. The sum of quantity × price over held symbols, prices above 0 only; the last record and the last price of a symbol count. Each product and the

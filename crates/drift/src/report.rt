@@ -4,7 +4,7 @@ ghost use Prim.Native.Nat.{max};
 ghost use lib.ListN.{length, replicate};
 ghost use Rattle.drift.specs.Rows.{heldIn, targetsIn, pricesIn};
 ghost use Rattle.drift.specs.Report.{linesOf, trackingError, Reported, listsLayout, driftOf, driftBytes};
-ghost use Rattle.drift.specs.Code.{linesAt, SoundLists, Filled};
+ghost use Rattle.drift.specs.Code.{linesAt, SoundLists, Blank, Filled};
 use crate::entry;
 use crate::entry::Made;
 use crate::rows;
@@ -75,25 +75,70 @@ fn write_entries(
     Drift::Done(n as u32, tracking_error(sum, n))
 }
 
-// The entries of lists that are sound.
-fn report(positions: &[u8], targets: &[u8], prices: &[u8], equity: i64, entries: &mut [u8]) -> Drift
-    requires { ⌜ SoundLists (now positions) (now targets) (now prices) ⌝ ∗ ⌜ now entries ≡ replicate (length (now entries)) 0 ⌝ }
+// The entries of lists that are sound, by four arrays that are zero.
+fn report_in(
+    positions: &[u8],
+    targets: &[u8],
+    prices: &[u8],
+    equity: i64,
+    words: &mut [u64],
+    quantities: &mut [u64],
+    weights: &mut [u64],
+    costs: &mut [u64],
+    entries: &mut [u8],
+) -> Drift
+    requires { ⌜ SoundLists (now positions) (now targets) (now prices) ⌝ ∗ ⌜ Blank (now positions) (now targets) (now words) (now quantities) (now weights) (now costs) ⌝ ∗ ⌜ now entries ≡ replicate (length (now entries)) 0 ⌝ }
     ensures { λ r. ⌜ Reported r (now (entries .exit)) (linesOf (heldIn (now (positions .entry))) (targetsIn (now (targets .entry))) (pricesIn (now (prices .entry)))) equity (length (now (entries .entry))) ⌝ }
 {
-    let mut words = [0u64; 2048];
-    let mut quantities = [0u64; 2048];
-    let mut weights = [0u64; 2048];
-    let mut costs = [0u64; 2048];
     let n = words::lines(
         positions,
         targets,
         prices,
+        words,
+        quantities,
+        weights,
+        costs,
+    );
+    write_entries(words, quantities, weights, costs, n, equity, entries)
+}
+
+// The entries of lists that are sound. Short lists are worked on in short arrays.
+fn report(positions: &[u8], targets: &[u8], prices: &[u8], equity: i64, entries: &mut [u8]) -> Drift
+    requires { ⌜ SoundLists (now positions) (now targets) (now prices) ⌝ ∗ ⌜ now entries ≡ replicate (length (now entries)) 0 ⌝ }
+    ensures { λ r. ⌜ Reported r (now (entries .exit)) (linesOf (heldIn (now (positions .entry))) (targetsIn (now (targets .entry))) (pricesIn (now (prices .entry)))) equity (length (now (entries .entry))) ⌝ }
+{
+    if positions.len() / 32 + targets.len() / 24 <= 32 {
+        let mut words = [0u64; 32];
+        let mut quantities = [0u64; 32];
+        let mut weights = [0u64; 32];
+        let mut costs = [0u64; 32];
+        return report_in(
+            positions,
+            targets,
+            prices,
+            equity,
+            &mut words,
+            &mut quantities,
+            &mut weights,
+            &mut costs,
+            entries,
+        );
+    }
+    let mut words = [0u64; 2048];
+    let mut quantities = [0u64; 2048];
+    let mut weights = [0u64; 2048];
+    let mut costs = [0u64; 2048];
+    report_in(
+        positions,
+        targets,
+        prices,
+        equity,
         &mut words,
         &mut quantities,
         &mut weights,
         &mut costs,
-    );
-    write_entries(&words, &quantities, &weights, &costs, n, equity, entries)
+        entries,
+    )
 }
 
 // Refusals 1 and 2 of the three lists.

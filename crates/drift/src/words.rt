@@ -7,7 +7,7 @@ ghost use Rattle.wire.specs.Table.{records};
 ghost use Rattle.drift.specs.Rows.{rowOf, heldIn, targetsIn, pricesIn};
 ghost use Rattle.drift.specs.Symbols.{inserted};
 ghost use Rattle.drift.specs.Report.{linesOf};
-ghost use Rattle.drift.specs.Code.{swapped, key, keyFirst, Rising, Place, found, Gathered, Marked, Noted, lenOf, linesAt, SoundLists, Blank};
+ghost use Rattle.drift.specs.Code.{swapped, key, keyFirst, Rising, Place, found, Gathered, Marked, Noted, lenOf, linesAt, SoundLists, Blank, Filled};
 
 // The four low bytes of x the other way round.
 fn four(x: u64) -> u64
@@ -31,23 +31,27 @@ pub fn len_of(x: u64) -> u64
     (71 - u64::leading_zeros(x) as u64) / 8
 }
 
-// Where x stands, or would stand, among the first n: by halves.
+// Where x stands, or would stand, among the first n: by halves, by the keys without their last bit, which one test behind the loop reads. How often it
+// halves depends on n only, and what it reads is reckoned with and not branched on.
 fn place(words: &[u64], n: usize, x: u64) -> usize
-    requires { ⌜ n ≤ length (now words) ⌝ }
+    requires { ⌜ n ≤ length (now words) ⌝ ∗ ⌜ Rising key (take n (now words)) ⌝ }
     ensures { λ r. ⌜ Place (now (words .entry)) n x r ⌝ }
 {
     let k = key_of(x);
+    let mark = 0x7fff_ffff_ffff_ffff + k / 2;
     let mut low = 0;
-    let mut high = n;
-    while low < high {
-        let mid = low + (high - low) / 2;
-        if key_of(words[mid]) < k {
-            low = mid + 1;
-        } else {
-            high = mid;
-        }
+    let mut size = n;
+    while 0 < size {
+        let half = size - size / 2;
+        let below = (mark - key_of(words[low + half - 1]) / 2) / 0x8000_0000_0000_0000;
+        low += half * (below as usize);
+        size = size / 2;
     }
-    low
+    if low < n {
+        low + ((key_of(words[low]) < k) as usize)
+    } else {
+        low
+    }
 }
 
 // Whether x stands at p.
@@ -62,16 +66,24 @@ fn has(words: &[u64], n: usize, p: usize, x: u64) -> bool
     }
 }
 
+// Moves the first n elements one place up. It has no other start, so that it is compiled to one move of memory.
+fn move_up(words: &mut [u64], n: usize)
+    requires { ⌜ n < length (now words) ⌝ }
+    ensures { λ _. ⌜ now (words .exit) ≡ take 1 (now (words .entry)) ++ (take n (now (words .entry)) ++ drop (suc n) (now (words .entry))) ⌝ }
+{
+    let mut j = n;
+    while 0 < j {
+        words[j] = words[j - 1];
+        j -= 1;
+    }
+}
+
 // Moves the elements from p up to n, excluding it, one place up.
 fn open(words: &mut [u64], p: usize, n: usize)
     requires { ⌜ p ≤ n ⌝ ∗ ⌜ n < length (now words) ⌝ }
     ensures { λ _. ⌜ now (words .exit) ≡ take (suc p) (now (words .entry)) ++ (take (n - p) (drop p (now (words .entry))) ++ drop (suc n) (now (words .entry))) ⌝ }
 {
-    let mut j = n;
-    while p < j {
-        words[j] = words[j - 1];
-        j -= 1;
-    }
+    move_up(&mut words[p..], n - p);
 }
 
 // x put in its place among the first n; the answer is how many are taken then.
@@ -126,7 +138,7 @@ fn last_values(list: &[u8], width: usize, count: usize, words: &[u64], n: usize,
     }
 }
 
-// The symbols that are held or targeted and what was last said of each, in four arrays; how many they are. The arrays are zero before.
+// The symbols that are held or targeted and what was last said of each, in four arrays, which are zero before; how many they are.
 pub fn lines(
     positions: &[u8],
     targets: &[u8],
@@ -136,8 +148,8 @@ pub fn lines(
     weights: &mut [u64],
     costs: &mut [u64],
 ) -> usize
-    requires { ⌜ SoundLists (now positions) (now targets) (now prices) ⌝ ∗ ⌜ Blank (now words) (now quantities) (now weights) (now costs) ⌝ }
-    ensures { λ r. ⌜ (r ≤ 2048) × (linesAt (now (words .exit)) (now (quantities .exit)) (now (weights .exit)) (now (costs .exit)) r ≡ linesOf (heldIn (now (positions .entry))) (targetsIn (now (targets .entry))) (pricesIn (now (prices .entry)))) ⌝ }
+    requires { ⌜ SoundLists (now positions) (now targets) (now prices) ⌝ ∗ ⌜ Blank (now positions) (now targets) (now words) (now quantities) (now weights) (now costs) ⌝ }
+    ensures { λ r. ⌜ Filled r (now (words .exit)) (now (quantities .exit)) (now (weights .exit)) (now (costs .exit)) × (linesAt (now (words .exit)) (now (quantities .exit)) (now (weights .exit)) (now (costs .exit)) r ≡ linesOf (heldIn (now (positions .entry))) (targetsIn (now (targets .entry))) (pricesIn (now (prices .entry)))) ⌝ }
 {
     let held = positions.len() / 32;
     let wanted = targets.len() / 24;

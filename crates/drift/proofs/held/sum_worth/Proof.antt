@@ -2,7 +2,7 @@
 use Rattle.drift.proofs.held.sum_worth.Statement.{statement}
 use Rattle.drift.proofs.held.sum_worth.Tie as tie
 use borrow.Author.Needs.{needs}
-use Prim.Native.Nat.{_+_, _*_, _-_, _^_, _≤_, _<_}
+use Prim.Native.Nat.{ℕ, _+_, _*_, _-_, _/_, _^_, _≤_, _<_}
 use mathlib.Core.Path.{_≡_, sym, ap, _∙_}
 use mathlib.Core.List.{[], map}
 use native.Mathlib.Omega.{arith}
@@ -76,11 +76,18 @@ returns c =
 raise-requires : tie.Need-raise-requires Inv-loop μ-loop
 raise-requires c κs = search needs
 
+high-fits : (high k n up : ℕ) → high ≤ k * 0x1_0000_0000 → k < n → n ≤ 2048 → up < 2 ^ 64 → high + up / 0x1_0000_0000 < 2 ^ 64
+high-fits high k n up h l m u = omega arith
+
 add-high : tie.Need-add-high Inv-loop μ-loop
 add-high c =
-    let u = raised-small (c .before .before .added .given .0 .0) (record { sfits = c .before .known-told .given .0 .1 }) in
+    let x = c .before .before .added .given .0 .0 in
+    let fx : SFits w64 x = record { sfits = c .before .known-told .given .0 .1 } in
+    let e : c .raise .result ≡ raised x = c .raise .ensures ∙ ap raised (toZ-ofZ w64 x fx) in
+    let s : c .raise .result < 2 ^ 64 = rw e (raised-small x fx) in
     let l = c .before .before .before .before .before .before .before .before .before .before .loop in
-    omega (arith, l .inv .0, l .inv .1, c .before .before .before .before .before .before .before .before .before .before .before .before .before .pre .0, c .before .before .before .before .before .before .before .before .before .loop-test .taken)
+    let b = c .before .before .before .before .before .before .before .before .before .before .before .before .before in
+    record { fits = high-fits (l .high) (l .k) (b .args .n) (c .raise .result) (l .inv .1) (c .before .before .before .before .before .before .before .before .before .loop-test .taken) (b .pre .0) s }
 
 add-low : tie.Need-add-low Inv-loop μ-loop
 add-low c =

@@ -1,6 +1,6 @@
 -- `words::lines`: the symbols are in order, and what is noted of each is what was last said.
 use borrow.Author.Needs.{needs}
-use Prim.Native.Nat.{ℕ, _/_, _≤_}
+use Prim.Native.Nat.{ℕ, _+_, _/_, _≤_}
 use mathlib.Core.Path.{_≡_, ap, subst, _∙_}
 use mathlib.Core.List.{List}
 use native.Mathlib.Omega.{arith}
@@ -19,9 +19,9 @@ use Rattle.drift.proofs.Lines.{lines-are}
 use Rattle.drift.proofs.words.lines.Statement.{statement}
 use Rattle.drift.proofs.words.lines.Tie as tie
 
--- an array of 2,048 zeros
-zeros : (l : List ℕ) → l ≡ replicate 2048 0 → length l ≡ 2048
-zeros l e = ap length e ∙ length-replicate {A = ℕ} 2048 0
+-- an array of m zeros
+zeros : (m : ℕ) (l : List ℕ) → l ≡ replicate m 0 → length l ≡ m
+zeros m l e = ap length e ∙ length-replicate {A = ℕ} m 0
 
 -- the rows of the three lists
 held-rows : (s : tie.After-slice-known4)
@@ -42,53 +42,63 @@ price-rows s =
     let q = now (s .before .before .before .before .before .before .before .args .prices) in
     sound-rows 24 q (bytes-of q (s .before .before .before .before .shared-slice-known3 .given)) (s .before .before .before .before .before .before .before .pre .0 .priced)
 
--- how many are taken behind the first list, and behind both, of 2,048
-some-most : (g : tie.After-gather) → g .gather .result ≤ 1024
+-- how many are taken behind the first list, and behind both
+some-most : (g : tie.After-gather) → g .gather .result ≤ length (now (g .before .before .before .before .before .before .before .before .before .args .positions)) / 32
 some-most g =
     let p = now (g .before .before .before .before .before .before .before .before .before .args .positions) in
-    omega (arith, held-rows (g .before .before) .0, g .gather .ensures .most, length-records rowOf 32 (length p / 32) p)
+    omega (arith, g .gather .ensures .most, length-records rowOf 32 (length p / 32) p)
 
-all-most : (k : tie.After-gather2) → k .gather2 .result ≤ 2048
+all-most : (k : tie.After-gather2) → k .gather2 .result ≤ length (now (k .before .before .before .before .before .before .before .before .before .before .before .before .before .args .positions)) / 32 + length (now (k .before .before .before .before .before .before .before .before .before .before .before .before .before .args .targets)) / 24
 all-most k =
     let t = now (k .before .before .before .before .before .before .before .before .before .before .before .before .before .args .targets) in
-    omega (arith, some-most (k .before .before .before .before), target-rows (k .before .before .before .before .before .before) .0, k .gather2 .ensures .most, length-records rowOf 24 (length t / 24) t)
+    omega (arith, some-most (k .before .before .before .before), k .gather2 .ensures .most, length-records rowOf 24 (length t / 24) t)
 
-first-size : (g : tie.After-gather) → length (g .gather .last .1 .1 .1 .0) ≡ 2048
-first-size g = g .gather .kept .1 .1 .1 .0 ∙ zeros (now (g .before .before .before .before .before .before .before .before .before .args .words)) (g .before .before .before .before .before .before .before .before .before .pre .1 .words)
+all-room : (k : tie.After-gather2) → k .gather2 .result ≤ length (now (k .before .before .before .before .before .before .before .before .before .before .before .before .before .args .words))
+all-room k =
+    let b = (k .before .before .before .before .before .before .before .before .before .before .before .before .before .pre .1) in
+    omega (arith, all-most k, b .room)
 
-all-size : (k : tie.After-gather2) → length (k .gather2 .last .1 .1 .1 .0) ≡ 2048
-all-size k = k .gather2 .kept .1 .1 .1 .0 ∙ first-size (k .before .before .before .before)
+all-few : (k : tie.After-gather2) → k .gather2 .result ≤ 2048
+all-few k =
+    let s = k .before .before .before .before .before .before in
+    omega (arith, all-most k, held-rows s .0, target-rows s .0)
+
+all-size : (k : tie.After-gather2) → length (k .gather2 .last .1 .1 .1 .0) ≡ length (now (k .before .before .before .before .before .before .before .before .before .before .before .before .before .args .words))
+all-size k = k .gather2 .kept .1 .1 .1 .0 ∙ k .before .before .before .before .gather .kept .1 .1 .1 .0
+
+-- an array of zeros has room for them
+value-room : (k : tie.After-gather2) (l : List ℕ) → l ≡ replicate (length (now (k .before .before .before .before .before .before .before .before .before .before .before .before .before .args .words))) 0 → k .gather2 .result ≤ length l
+value-room k l e = omega (arith, all-room k, zeros (length (now (k .before .before .before .before .before .before .before .before .before .before .before .before .before .args .words))) l e)
 
 gather-requires : tie.Need-gather-requires
 gather-requires c κs =
     let s = c .before in
-    let h = held-rows s .0 in
-    let w = zeros (now (s .before .before .before .before .before .before .before .args .words)) (s .before .before .before .before .before .before .before .pre .1 .words) in
-    (omega arith, (h, (omega (arith, h, w), Code.Rising.none)))
+    let b = s .before .before .before .before .before .before .before .pre .1 in
+    (omega arith, (held-rows s .0, (omega (arith, b .room), Code.Rising.none)))
 
 gather-requires-2 : tie.Need-gather-requires-2
 gather-requires-2 c κs =
     let g = c .before .before .before in
-    let t = target-rows (g .before .before) .0 in
-    (omega arith, (t, (omega (arith, t, some-most g, first-size g), g .gather .ensures .rising)))
+    let b = g .before .before .before .before .before .before .before .before .before .pre .1 in
+    (omega arith, (target-rows (g .before .before) .0, (omega (arith, some-most g, b .room, g .gather .kept .1 .1 .1 .0), g .gather .ensures .rising)))
 
 last-values-requires : tie.Need-last-values-requires
 last-values-requires c κs =
     let k = c .before .before .before .before in
-    let v = zeros (now (k .before .before .before .before .before .before .before .before .before .before .before .before .before .args .quantities)) (k .before .before .before .before .before .before .before .before .before .before .before .before .before .pre .1 .quantities) in
-    (omega arith, (held-rows (k .before .before .before .before .before .before) .0, (omega (arith, all-most k, all-size k), (omega (arith, all-most k, v), k .gather2 .ensures .rising))))
+    let s = k .before .before .before .before .before .before .before .before .before .before .before .before .before in
+    (omega arith, (held-rows (k .before .before .before .before .before .before) .0, (omega (arith, all-room k, all-size k), (value-room k (now (s .args .quantities)) (s .pre .1 .quantities), k .gather2 .ensures .rising))))
 
 last-values-requires-2 : tie.Need-last-values-requires-2
 last-values-requires-2 c κs =
     let k = c .before .before .before .before .before .before .before .before .before in
-    let v = zeros (now (k .before .before .before .before .before .before .before .before .before .before .before .before .before .args .weights)) (k .before .before .before .before .before .before .before .before .before .before .before .before .before .pre .1 .weights) in
-    (omega arith, (target-rows (k .before .before .before .before .before .before) .0, (omega (arith, all-most k, all-size k), (omega (arith, all-most k, v), k .gather2 .ensures .rising))))
+    let s = k .before .before .before .before .before .before .before .before .before .before .before .before .before in
+    (omega arith, (target-rows (k .before .before .before .before .before .before) .0, (omega (arith, all-room k, all-size k), (value-room k (now (s .args .weights)) (s .pre .1 .weights), k .gather2 .ensures .rising))))
 
 last-values-requires-3 : tie.Need-last-values-requires-3
 last-values-requires-3 c κs =
     let k = c .before .before .before .before .before .before .before .before .before .before .before .before .before .before in
-    let v = zeros (now (k .before .before .before .before .before .before .before .before .before .before .before .before .before .args .costs)) (k .before .before .before .before .before .before .before .before .before .before .before .before .before .pre .1 .costs) in
-    (omega arith, (price-rows (k .before .before .before .before .before .before) .0, (omega (arith, all-most k, all-size k), (omega (arith, all-most k, v), k .gather2 .ensures .rising))))
+    let s = k .before .before .before .before .before .before .before .before .before .before .before .before .before in
+    (omega arith, (price-rows (k .before .before .before .before .before .before) .0, (omega (arith, all-room k, all-size k), (value-room k (now (s .args .costs)) (s .pre .1 .costs), k .gather2 .ensures .rising))))
 
 same-length : tie.Need-same-length
 same-length c = search needs
@@ -121,8 +131,14 @@ returns c =
     let ts = weight .last .1 .1 .1 .1 .1 .0 in
     let cs = cost .last .1 .1 .1 .1 .1 .0 in
     let sorted = k .gather2 .ensures .sorted ∙ ap (λ (z : List ℕ). sortedWith keyFirst z (wordsOf rt)) (g .gather .ensures .sorted) in (
-      all-most k,
-      lines-are rp rt rq (held-rows s .1) (target-rows s .1) (price-rows s .1) ws us ts cs n (omega (arith, all-most k, all-size k)) (all-most k) sorted
+      record {
+        most = all-few k;
+        words = omega (arith, all-room k, all-size k);
+        quantities = omega (arith, value-room k (now (a .quantities)) (b .quantities), quantity .kept .1 .1 .1 .1 .1 .0);
+        weights = omega (arith, value-room k (now (a .weights)) (b .weights), weight .kept .1 .1 .1 .1 .1 .0);
+        costs = omega (arith, value-room k (now (a .costs)) (b .costs), cost .kept .1 .1 .1 .1 .1 .0);
+      },
+      lines-are rp rt rq (held-rows s .1) (target-rows s .1) (price-rows s .1) ws us ts cs n (length (now (a .words))) (omega (arith, all-room k, all-size k)) (all-room k) sorted
           (subst (λ (z : List ℕ). Noted ws n rp z us) (b .quantities) (quantity .ensures))
           (subst (λ (z : List ℕ). Noted ws n rt z ts) (b .weights) (weight .ensures))
           (subst (λ (z : List ℕ). Noted ws n rq z cs) (b .costs) (cost .ensures)),

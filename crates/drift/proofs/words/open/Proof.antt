@@ -1,79 +1,46 @@
--- `words::open`: the elements from j on stand one place up.
+-- `words::open`: the part from p on is moved up.
+use borrow.Author.Needs.{needs}
 use Rattle.drift.proofs.words.open.Statement.{statement}
 use Rattle.drift.proofs.words.open.Tie as tie
-use borrow.Author.Needs.{needs}
-use Prim.Native.Nat.{ℕ, _-_, _≤_}
-use mathlib.Core.Path.{_≡_, refl, ap, _∙_}
-use mathlib.Core.List.{List}
 use native.Mathlib.Omega.{arith}
 use denote.Ref.{now}
-use lib.ListN.{length, getD, set, length-set}
-use Rattle.drift.proofs.Opened.{opened, open-first, open-step}
+use Rattle.drift.proofs.Opened.{open-part}
 
-abbrev Inv-loop : tie.InvT-loop
-Inv-loop words₀ p n j₀ words j = (length words ≡ length words₀) × (p ≤ j) × (j ≤ n) × (words ≡ opened words₀ n j)
+mul-move-up : tie.Need-mul-move-up
+mul-move-up c = search needs
 
-abbrev μ-loop : tie.MeasureT-loop
-μ-loop words₀ p n j₀ words j = j
+sub-move-up : tie.Need-sub-move-up
+sub-move-up c = search needs
 
-loop-holds : tie.Need-loop-holds Inv-loop μ-loop
-loop-holds c = (refl, omega arith, omega arith, open-first (now (c .args .words)) (c .args .n) (omega arith))
+part-move-up-start : tie.Need-part-move-up-start
+part-move-up-start c = search needs
 
-sub-words : tie.Need-sub-words Inv-loop μ-loop
-sub-words c = search needs
+part-move-up-end : tie.Need-part-move-up-end
+part-move-up-end c = search needs
 
-mul-words : tie.Need-mul-words Inv-loop μ-loop
-mul-words c = search needs
+sub-move-up-2 : tie.Need-sub-move-up-2
+sub-move-up-2 c = search needs
 
-slice-read-words : tie.Need-slice-read-words Inv-loop μ-loop
-slice-read-words c = search needs
+move-up-requires : tie.Need-move-up-requires
+move-up-requires c κs = search needs
 
-mul-words-2 : tie.Need-mul-words-2 Inv-loop μ-loop
-mul-words-2 c = search needs
+same-length : tie.Need-same-length
+same-length c = search needs
 
-slice-write-words : tie.Need-slice-write-words Inv-loop μ-loop
-slice-write-words c = search needs
-
-sub-j : tie.Need-sub-j Inv-loop μ-loop
-sub-j c = search needs
-
-loop-less : tie.Need-loop-less Inv-loop μ-loop
-loop-less c = search needs
-
-loop-again : tie.Need-loop-again Inv-loop μ-loop
-loop-again c =
-    let l = c .before .before .loop in
-    let a = c .before .before .before .args in
-    let d = now (a .words) in (
-      length-set (l .words) (l .j) _ ∙ l .inv .0,
-      omega arith,
-      omega arith,
-      ap (λ (t : List ℕ). set t (l .j) (getD t (l .j - 1) 0)) (l .inv .3) ∙ open-step d (a .n) (l .j) (omega arith) (omega arith) (omega arith),
-    )
-
-same-length : tie.Need-same-length Inv-loop μ-loop
-same-length c = c .before .loop .inv .0
-
-returns : tie.Need-returns Inv-loop μ-loop
+returns : tie.Need-returns
 returns c =
-    let l = c .before .loop in
-    let e : l .j ≡ c .before .before .args .p = omega arith in
-    l .inv .3 ∙ ap (opened (now (c .before .before .args .words)) (c .before .before .args .n)) e
+    let s = c .before .before .before .before .before in
+    open-part (now (s .args .words)) (c .before .before .move-up .last .0) (s .args .p) (s .args .n) (s .pre .0) (s .pre .1) (c .before .before .move-up .ensures)
 
 pub open-spec : {M : Type 1} → statement M
 open-spec =
     tie.close
     (tie.spec
-    Inv-loop
-    μ-loop
-    loop-holds
-    sub-words
-    mul-words
-    slice-read-words
-    mul-words-2
-    slice-write-words
-    sub-j
-    loop-less
-    loop-again
+    mul-move-up
+    sub-move-up
+    part-move-up-start
+    part-move-up-end
+    sub-move-up-2
+    move-up-requires
     same-length
     returns)

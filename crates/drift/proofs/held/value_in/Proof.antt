@@ -1,0 +1,69 @@
+-- `held::value_in`: the lines of what is held, with no targets.
+use borrow.Author.Needs.{needs}
+use Rattle.drift.proofs.held.value_in.Statement.{statement}
+use Rattle.drift.proofs.held.value_in.Tie as tie
+use mathlib.Core.Path.{_≡_, refl, sym, ap, subst, _∙_}
+use mathlib.Core.List.{List, [], map}
+use Prim.Native.Nat.{ℕ}
+use denote.Ref.{now}
+use lib.Ieee.{Float}
+use lib.Seq.{drop-length}
+use Rattle.symbol.specs.declared.Symbol.{Symbol}
+use Rattle.drift.specs.Rows.{heldIn, targetsIn, pricesIn, rowsLayout}
+use Rattle.drift.specs.Report.{linesOf}
+use Rattle.drift.specs.Value.{worth, valueOf}
+use Rattle.drift.specs.Code.{lineAt, Blank}
+use Rattle.drift.proofs.Runs.{worth-same}
+use Rattle.drift.proofs.Refusals.{empty-sound, none-targeted}
+
+from-requires : tie.Need-from-requires
+from-requires c κs = search needs
+
+lines-requires : tie.Need-lines-requires
+lines-requires c κs =
+    let s = c .before .before .before .before .before .before .before .before .before .before .before in
+    let a = s .args in
+    let e = c .before .before .before .before .from .ensures ∙ drop-length (now (a .prices)) in
+    (record { held = s .pre .0; wanted = ap (rowsLayout 24) e ∙ empty-sound; priced = s .pre .1 .0 }, subst (λ (t : List ℕ). Blank (now (a .positions)) t (now (a .words)) (now (a .quantities)) (now (a .weights)) (now (a .costs))) (sym e) (s .pre .1 .1))
+
+sum-worth-requires : tie.Need-sum-worth-requires
+sum-worth-requires c κs = search needs
+
+same-length : tie.Need-same-length
+same-length c = search needs
+
+same-length-2 : tie.Need-same-length-2
+same-length-2 c = search needs
+
+same-length-3 : tie.Need-same-length-3
+same-length-3 c = search needs
+
+same-length-4 : tie.Need-same-length-4
+same-length-4 c = search needs
+
+returns : tie.Need-returns
+returns c =
+    let a = c .before .before .before .before .before .before .before .before .before .before .before .before .before .before .before .before .before .before .before .before .before .before .before .args in
+    let p = now (a .positions) in
+    let q = now (a .prices) in
+    let l = c .before .before .before .before .before .before .before .before .before .before .before .lines in
+    let ws = l .last .1 .1 .1 .0 in
+    let us = l .last .1 .1 .1 .1 .0 in
+    let ts = l .last .1 .1 .1 .1 .1 .0 in
+    let cs = l .last .1 .1 .1 .1 .1 .1 .0 in
+    let e = c .before .before .before .before .before .before .before .before .before .before .before .before .before .before .before .before .from .ensures ∙ drop-length q in
+    let t = ap targetsIn e ∙ none-targeted in
+    c .sum-worth .ensures ∙ ap valueOf (worth-same (lineAt [] us [] cs) (lineAt ws us ts cs) (λ i. refl) 0 (l .result) ∙ ap (map worth) (l .ensures .1 ∙ ap (λ (z : List (Symbol × Float)). linesOf (heldIn p) z (pricesIn q)) t))
+
+pub value-in-spec : {M : Type 1} → statement M
+value-in-spec =
+    tie.close
+    (tie.spec
+    from-requires
+    lines-requires
+    sum-worth-requires
+    same-length
+    same-length-2
+    same-length-3
+    same-length-4
+    returns)

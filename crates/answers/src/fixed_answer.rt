@@ -1,0 +1,23 @@
+// A conversion's answer: an i64 in the first eight bytes, little-endian; all other bytes are zero, and all of them where it is refused.
+ghost use mathlib.Core.Path.{_≡_};
+ghost use lib.ListN.{length};
+ghost use Rattle.answers.specs.FixedAnswer.{refusalIn, bytesIn};
+use types::fixed::Fixed;
+
+// Writes a conversion's answer and returns its number. An `answer` of less than eight bytes is refused by 3, after 9 and 10.
+pub fn give_fixed(r: Fixed, answer: &mut [u8]) -> u32
+    ensures { λ k. ⌜ (k ≡ refusalIn r (length (now (answer .entry)))) × (now (answer .exit) ≡ bytesIn r (length (now (answer .entry)))) ⌝ }
+{
+    wire::clear(answer);
+    match r {
+        Fixed::NotFinite => 9,
+        Fixed::OutOfRange => 10,
+        Fixed::Value(v) => {
+            if answer.len() < 8 {
+                return 3;
+            }
+            wire::put(answer, 0, 8, wire::unsigned(v));
+            0
+        }
+    }
+}

@@ -1,18 +1,20 @@
 -- A conversion's answer in lent bytes, by the room for it. Assumes nothing.
 use mathlib.Core.Path.{_≡_, refl, sym, ap, _∙_}
-use Prim.Native.Nat.{ℕ, _<_, _≤_}
+use Prim.Native.Nat.{ℕ}
 use mathlib.Core.List.{List}
+use mathlib.Core.Bool.{Bool, true, false, cond}
+use lib.Dec.{eqb, ltb}
 use lib.IntN.{ℤ}
 use lib.ListN.{replicate}
 use lib.Seq.{sets}
 use mir.Syntax.{w64}
 use mir.Val.{ofZ}
-use borrow.Author.Tests.{lt-ltb, le-ltb}
 use Rattle.wire.specs.Le.{bytesOf}
 use Rattle.types.specs.declared.fixed.Fixed.{Fixed}
 use Rattle.types.specs.declared.fixed.Fixed.the-variants.{Value, NotFinite, OutOfRange}
-use Rattle.answers.specs.Answer.{roomNumber}
+use Rattle.answers.specs.Answer.{roomNumber, unlessShort}
 use Rattle.answers.specs.FixedAnswer.{refusalIn, bytesIn}
+use Rattle.answers.proofs.Given.{IsWithin}
 
 -- the number k and the bytes s are the answer
 abbrev pub IsAnswer : Fixed → ℕ → ℕ → List ℕ → Type 0
@@ -29,10 +31,10 @@ pub out-of-range : (room : ℕ) → IsAnswer OutOfRange room 10 (replicate room 
 unfolding roomNumber refusalIn bytesIn
 out-of-range room = (refl, refl)
 
-pub no-room : (z : ℤ) (room : ℕ) → room < 8 → IsAnswer (Value z) room 3 (replicate room 0)
-unfolding roomNumber refusalIn bytesIn
-no-room z room h = (rw (lt-ltb room 8 h), rw (lt-ltb room 8 h))
+by-room : (b : Bool) (x y : List ℕ) → cond b x y ≡ cond (eqb (cond b 3 0) 0) y x
+by-room true x y = refl
+by-room false x y = refl
 
-pub written : (z : ℤ) (room : ℕ) → 8 ≤ room → IsAnswer (Value z) room 0 (sets (replicate room 0) 0 (bytesOf 8 (ofZ w64 z)))
-unfolding roomNumber refusalIn bytesIn
-written z room h = (rw (le-ltb room 8 h), rw (le-ltb room 8 h))
+pub value-within : (z : ℤ) (room : ℕ) {k : ℕ} {s : List ℕ} → IsWithin 8 0 room (sets (replicate room 0) 0 (bytesOf 8 (ofZ w64 z))) k s → IsAnswer (Value z) room k s
+unfolding roomNumber unlessShort refusalIn bytesIn
+value-within z room w = (w .0, w .1 ∙ by-room (ltb room 8) _ _)

@@ -4,7 +4,7 @@ ghost use lib.ListN.{length};
 ghost use Rattle.answers.specs.FixedAnswer.{refusalIn, bytesIn};
 use types::fixed::Fixed;
 
-// Writes a conversion's answer and returns its number. An `answer` of less than eight bytes is refused by 3, after 9 and 10.
+// Writes a conversion's value in eight bytes and returns the answer's number: 9 and 10, then 3 where there is no room.
 pub fn give_fixed(r: Fixed, answer: &mut [u8]) -> u32
     ensures { λ k. ⌜ (k ≡ refusalIn r (length (now (answer .entry)))) × (now (answer .exit) ≡ bytesIn r (length (now (answer .entry)))) ⌝ }
 {
@@ -13,11 +13,8 @@ pub fn give_fixed(r: Fixed, answer: &mut [u8]) -> u32
         Fixed::NotFinite => 9,
         Fixed::OutOfRange => 10,
         Fixed::Value(v) => {
-            if answer.len() < 8 {
-                return 3;
-            }
-            wire::put(answer, 0, 8, wire::unsigned(v));
-            0
+            wire::put_u64(answer, 0, wire::unsigned(v));
+            crate::within(answer, 8, 0)
         }
     }
 }

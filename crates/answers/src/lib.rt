@@ -1,14 +1,15 @@
-// Each entry's result as numbers in lent bytes: what the entries of `exports` write and return, by functions that are called from Rattle.
+// Each entry's result as numbers in lent bytes: what the entries of `exports` return and write.
 //
-// A result is the refusal's number and two numbers in the first sixteen bytes of `answer`, or a record of its own size; `specs/` says which. An answer
-// that has no room is refused by 3, after every other refusal, and then every lent byte is zero. Lent marks are a record of 176 bytes (crate
-// `marks_record`); one that is none is refused by 2, after 1 of what is lent beside it.
+// A result is the refusal's number, and two numbers in the first sixteen bytes of `answer` or a record of another size; `specs/` says which. An answer
+// that has no room is refused by 3, after every other refusal, and then its bytes and the outputs beside it are zero. Lent marks are a record of 176
+// bytes (crate `marks_record`); one that is none is refused by 2, after 1 of what is lent beside it.
 ghost use mathlib.Core.Path.{_≡_};
 ghost use lib.ListN.{length};
 ghost use Rattle.wire.specs.Layout.{layoutNumber};
 ghost use Rattle.marks_record.specs.MarksRecord.{truthNumber, marksOk};
 ghost use Rattle.answers.specs.Answer.{numbers, roomNumber, unlessShort, answerNumber, answerBytes};
 ghost use Rattle.answers.specs.RecoveryAnswer.{marksFirst};
+
 pub mod audit_answer;
 pub mod drift_answer;
 pub mod fixed_answer;
@@ -16,6 +17,7 @@ pub mod recovery_answer;
 pub mod reply_answer;
 pub mod round_answer;
 pub mod state_answer;
+
 use wire::layout::Layout;
 
 // A refusal's number and the two numbers of an answer.
@@ -78,7 +80,7 @@ pub fn clear_if_short(d: &mut [u8], size: usize, room: usize)
     }
 }
 
-// Two of them.
+// Two outputs beside an answer.
 pub fn clear_both_if_short(d: &mut [u8], e: &mut [u8], size: usize, room: usize)
     ensures { λ _. ⌜ (now (d .exit) ≡ unlessShort size room (length (now (d .entry))) (now (d .entry))) × (now (e .exit) ≡ unlessShort size room (length (now (e .entry))) (now (e .entry))) ⌝ }
 {

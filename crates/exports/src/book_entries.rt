@@ -32,7 +32,9 @@ pub extern "C" fn desk_validate_checkpoints(book: &[u8], answer: &mut [u8]) -> u
     ensures { λ k. ⌜ k ≡ answerNumber (verdictNumbers (bookVerdict (now (book .entry))) .0) (length (now (answer .entry))) ⌝ }
     ensures { λ k. ⌜ now (answer .exit) ≡ answerBytes (verdictNumbers (bookVerdict (now (book .entry))) .1) (verdictNumbers (bookVerdict (now (book .entry))) .2) (length (now (answer .entry))) ⌝ }
 {
-    let verdict = audit_answer::verdict_numbers(audit::validate::validate_checkpoints_from_parsed(book));
+    let verdict = audit_answer::verdict_numbers(audit::validate::validate_checkpoints_from_parsed(
+        book,
+    ));
     answers::give(verdict, answer)
 }
 
@@ -56,6 +58,9 @@ pub extern "C" fn desk_check_window_already_complete(
     ensures { λ k. ⌜ k ≡ answerNumber (windowNumbers (bookWindow (now (window .entry)) (now (book .entry))) .0) (length (now (answer .entry))) ⌝ }
     ensures { λ k. ⌜ now (answer .exit) ≡ answerBytes (windowNumbers (bookWindow (now (window .entry)) (now (book .entry))) .1) (windowNumbers (bookWindow (now (window .entry)) (now (book .entry))) .2) (length (now (answer .entry))) ⌝ }
 {
-    let complete = audit_answer::window_numbers(audit::sequence::check_window_already_complete(book, window));
+    let complete = audit_answer::window_numbers(audit::sequence::check_window_already_complete(
+        book,
+        window,
+    ));
     answers::give(complete, answer)
 }

@@ -23,7 +23,13 @@ pub extern "C" fn desk_reconcile(
     ensures { λ k. ⌜ now (entries .exit) ≡ unlessShort 16 (length (now (answer .entry))) (length (now (entries .entry))) (driftBytes (now (positions .entry)) (now (targets .entry)) (now (prices .entry)) equity (length (now (entries .entry)))) ⌝ }
     ensures { λ k. ⌜ now (answer .exit) ≡ answerBytes (driftNumbers (driftOf (now (positions .entry)) (now (targets .entry)) (now (prices .entry)) equity (length (now (entries .entry)))) .1) (driftNumbers (driftOf (now (positions .entry)) (now (targets .entry)) (now (prices .entry)) equity (length (now (entries .entry)))) .2) (length (now (answer .entry))) ⌝ }
 {
-    let n = drift_answer::drift_numbers(drift::report::reconcile(positions, targets, prices, equity, entries));
+    let n = drift_answer::drift_numbers(drift::report::reconcile(
+        positions,
+        targets,
+        prices,
+        equity,
+        entries,
+    ));
     answers::give_beside(n, entries, answer)
 }
 

@@ -1,15 +1,16 @@
--- `answers::fixed_answer::give_fixed` meets its contract: each case of the answer, by the room for it, is a law of `Answers`. Assumes nothing.
+-- `answers::fixed_answer::give_fixed` meets its contract: each case of the answer is a law of `Answers`; the value is read back from its bits. Assumes nothing.
 use borrow.Author.Needs.{needs}
-use mathlib.Core.Path.{_≡_, ap, _∙_, subst}
+use mathlib.Core.Path.{_≡_, refl, ap, _∙_}
 use mathlib.Core.List.{List}
-use Prim.Native.Nat.{ℕ, _<_, _≤_}
+use Prim.Native.Nat.{ℕ}
 use lib.ListN.{length}
 use lib.Seq.{sets}
 use mir.Syntax.{w64}
 use mir.Val.{ofZ}
 use mir.ValLaws.{toZ-ofZ}
 use Rattle.wire.specs.Le.{bytesOf}
-use Rattle.answers.proofs.Answers.{carry, not-finite, out-of-range, no-room, written}
+use Rattle.answers.proofs.Answers.{carry, not-finite, out-of-range, value-within}
+use Rattle.answers.proofs.Given.{within-same}
 use Rattle.answers.proofs.fixed_answer.give_fixed.Statement.{statement}
 use Rattle.answers.proofs.fixed_answer.give_fixed.Tie as tie
 
@@ -25,57 +26,50 @@ enum-told-2 c = search needs
 enum-known-r : tie.Need-enum-known-r
 enum-known-r c = search needs
 
+unsigned-requires : tie.Need-unsigned-requires
+unsigned-requires c κs = search needs
+
+put-u64-requires : tie.Need-put-u64-requires
+put-u64-requires c κs = search needs
+
+within-requires : tie.Need-within-requires
+within-requires c κs = search needs
+
 same-length : tie.Need-same-length
 same-length c = search needs
 
 returns : tie.Need-returns
 returns c =
-    let k = c .before .before in
-    let e = k .before .before .before .before in
-    let s = e .before .before .before in
-    let room = length (s .args .answer .now) in
-    carry room (k .r .given .1) (e .clear .ensures) (no-room (k .r .given .0 .0) room (subst (λ (n : ℕ). n < 8) (e .clear .kept .0) (c .if1 .taken)))
-
-unsigned-requires : tie.Need-unsigned-requires
-unsigned-requires c κs = search needs
-
-put-requires : tie.Need-put-requires
-put-requires c κs = search needs
+    let clear = c .before .before .before .before in
+    let room = length (clear .before .before .before .args .answer .now) in
+    carry room (c .enum-told .given .1) (clear .clear .ensures) (not-finite room)
 
 same-length-2 : tie.Need-same-length-2
 same-length-2 c = search needs
 
 returns-2 : tie.Need-returns-2
 returns-2 c =
-    let e = c .before .before .before .before in
-    let room = length (e .before .before .before .args .answer .now) in
-    carry room (c .enum-told .given .1) (e .clear .ensures) (not-finite room)
+    let clear = c .before .before .before .before in
+    let room = length (clear .before .before .before .args .answer .now) in
+    carry room (c .enum-told2 .given .1) (clear .clear .ensures) (out-of-range room)
 
 same-length-3 : tie.Need-same-length-3
 same-length-3 c = search needs
 
 returns-3 : tie.Need-returns-3
 returns-3 c =
-    let e = c .before .before .before .before in
-    let room = length (e .before .before .before .args .answer .now) in
-    carry room (c .enum-told2 .given .1) (e .clear .ensures) (out-of-range room)
-
-same-length-4 : tie.Need-same-length-4
-same-length-4 c = search needs
-
-returns-4 : tie.Need-returns-4
-returns-4 c =
-    let u = c .before .before .before in
-    let f = u .before .before in
-    let k = f .before .before in
-    let e = k .before .before .before .before in
-    let s = e .before .before .before in
-    let v = k .r .given .0 .0 in
-    let bits : u .unsigned .result ≡ ofZ w64 v = u .unsigned .ensures ∙ ap (ofZ w64) (toZ-ofZ w64 v (record { sfits = f .before .known-told .given .0 .1 })) in
-    let room = length (s .args .answer .now) in
-    carry room (k .r .given .1)
-    (c .before .before .put .ensures ∙ ap (λ (n : ℕ). sets (e .clear .last .0) 0 (bytesOf 8 n)) bits ∙ ap (λ (d : List ℕ). sets d 0 (bytesOf 8 (ofZ w64 v))) (e .clear .ensures))
-    (written v room (subst (λ (n : ℕ). 8 ≤ n) (e .clear .kept .0) (f .if1 .left)))
+    let within = c .before .before in
+    let put = within .before .before .before .before in
+    let known = put .before .before .before in
+    let arm = known .before in
+    let clear = arm .before .before .before .before in
+    let v = arm .r .given .0 .0 in
+    let bits : put .before .unsigned .result ≡ ofZ w64 v = put .before .unsigned .ensures
+    ∙ ap (ofZ w64) (toZ-ofZ w64 v (record { sfits = known .known-told .given .0 .1 })) in
+    let room = length (clear .before .before .before .args .answer .now) in
+    let bytes = put .put-u64 .ensures ∙ ap (λ (n : ℕ). sets (clear .clear .last .0) 0 (bytesOf 8 n)) bits
+    ∙ ap (λ (d : List ℕ). sets d 0 (bytesOf 8 (ofZ w64 v))) (clear .clear .ensures) in
+    carry room (arm .r .given .1) refl (value-within v room (within-same 8 refl (put .put-u64 .kept .0 ∙ clear .clear .kept .0) bytes (within .within .ensures)))
 
 pub give-fixed-spec : {M : Type 1} → statement M
 give-fixed-spec =
@@ -85,13 +79,12 @@ give-fixed-spec =
     enum-told
     enum-told-2
     enum-known-r
+    unsigned-requires
+    put-u64-requires
+    within-requires
     same-length
     returns
-    unsigned-requires
-    put-requires
     same-length-2
     returns-2
     same-length-3
-    returns-3
-    same-length-4
-    returns-4)
+    returns-3)

@@ -5,26 +5,8 @@ ghost use lib.ListN.{length};
 ghost use lib.Ieee.{binary64, ofBits};
 ghost use Rattle.types.specs.Fixed.{toFixed, toCents};
 ghost use Rattle.types.specs.Order.{signExtended, truncated};
-ghost use Rattle.exports.specs.TypesEntries.{refusalIn, bytesIn};
-use types::fixed::Fixed;
-
-// Writes a conversion's answer and returns its number. An `answer` of less than eight bytes is refused by 3, after 9 and 10.
-fn answered(r: Fixed, answer: &mut [u8]) -> u32
-    ensures { λ k. ⌜ (k ≡ refusalIn r (length (now (answer .entry)))) × (now (answer .exit) ≡ bytesIn r (length (now (answer .entry)))) ⌝ }
-{
-    wire::clear(answer);
-    match r {
-        Fixed::NotFinite => 9,
-        Fixed::OutOfRange => 10,
-        Fixed::Value(v) => {
-            if answer.len() < 8 {
-                return 3;
-            }
-            wire::put(answer, 0, 8, wire::unsigned(v));
-            0
-        }
-    }
-}
+ghost use Rattle.answers.specs.FixedAnswer.{refusalIn, bytesIn};
+use answers::fixed_answer;
 
 // `f64_to_fixed_checked` of the f64s that have the bits value and scale.
 #[no_mangle]
@@ -36,7 +18,7 @@ pub extern "C" fn desk_f64_to_fixed_checked(value: u64, scale: u64, answer: &mut
         float::bits::from_bits(value),
         float::bits::from_bits(scale),
     );
-    answered(r, answer)
+    fixed_answer::give_fixed(r, answer)
 }
 
 // Entry. `f64_cents_checked` of the f64 that has the bits value.
@@ -46,7 +28,7 @@ pub extern "C" fn desk_f64_cents_checked(value: u64, answer: &mut [u8]) -> u32
     ensures { λ k. ⌜ now (answer .exit) ≡ bytesIn (toCents (ofBits binary64 value)) (length (now (answer .entry))) ⌝ }
 {
     let r = types::fixed::f64_cents_checked(float::bits::from_bits(value));
-    answered(r, answer)
+    fixed_answer::give_fixed(r, answer)
 }
 
 // An i32 ibkr_id `as u64`.

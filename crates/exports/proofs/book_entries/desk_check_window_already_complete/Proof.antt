@@ -2,7 +2,7 @@
 use borrow.Author.Needs.{needs}
 use mathlib.Core.Path.{_∙_}
 use lib.ListN.{length}
-use Rattle.exports.proofs.Given.{of-same}
+use Rattle.answers.proofs.Given.{of-same}
 use Rattle.exports.proofs.book_entries.desk_check_window_already_complete.Statement.{
   statement,
 }

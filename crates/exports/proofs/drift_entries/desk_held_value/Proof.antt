@@ -4,7 +4,7 @@ use Rattle.exports.proofs.drift_entries.desk_held_value.Statement.{stat
 use Rattle.exports.proofs.drift_entries.desk_held_value.Tie as tie
 use mathlib.Core.Path.{_∙_}
 use lib.ListN.{length}
-use Rattle.exports.proofs.Given.{of-same}
+use Rattle.answers.proofs.Given.{of-same}
 
 held-value-requires : tie.Need-held-value-requires
 held-value-requires c κs = search needs

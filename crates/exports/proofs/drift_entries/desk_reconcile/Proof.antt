@@ -7,10 +7,9 @@ use lib.ListN.{length}
 use mir.Syntax.{w64}
 use mir.ValLaws.{toZ-ofZ}
 use Rattle.drift.specs.declared.report.Drift.{Drift}
-use Rattle.exports.specs.Answer.{numbers}
-use Rattle.exports.specs.DriftAnswer.{driftNumbers}
-use Rattle.exports.proofs.Given.{of-same}
-use Rattle.exports.proofs.Lent.{beside}
+use Rattle.answers.specs.Answer.{numbers}
+use Rattle.answers.specs.DriftAnswer.{driftNumbers}
+use Rattle.answers.proofs.Given.{of-same, beside}
 
 reconcile-requires : tie.Need-reconcile-requires
 reconcile-requires c κs = search needs
@@ -18,11 +17,8 @@ reconcile-requires c κs = search needs
 drift-numbers-requires : tie.Need-drift-numbers-requires
 drift-numbers-requires c κs = search needs
 
-clear-if-short-requires : tie.Need-clear-if-short-requires
-clear-if-short-requires c κs = search needs
-
-give-requires : tie.Need-give-requires
-give-requires c κs = search needs
+give-beside-requires : tie.Need-give-beside-requires
+give-beside-requires c κs = search needs
 
 same-length : tie.Need-same-length
 same-length c = search needs
@@ -32,16 +28,16 @@ same-length-2 c = search needs
 
 returns : tie.Need-returns
 returns c =
-    let give = c .before .before in
-    let clear = give .before .before .before .before in
-    let drift = clear .before .before in
+    let give = c .before .before .before .before in
+    let given = give .give-beside .ensures in
+    let drift = give .before .before .before in
     let reconcile = drift .before .before .before in
     let start = reconcile .before .before .before .before .before .before .before in
     let room = length (start .args .answer .now) in
     let r = reconcile .reconcile in
     let e = rw (toZ-ofZ w64 (start .args .equity) (start .fits .equity)) at (r .ensures) in
-    let g = of-same room (drift .drift-numbers .ensures ∙ ap (λ (d : Drift). numbers (driftNumbers d)) (e .0)) (give .give .ensures) in
-    (g .0, (beside 16 room _ _ _ _ _ (clear .clear-if-short .ensures) (r .kept .1 .1 .1 .1 .0) (e .1), g .1))
+    let g = of-same room (drift .drift-numbers .ensures ∙ ap (λ (d : Drift). numbers (driftNumbers d)) (e .0)) (given .0, given .2) in
+    (g .0, (beside 16 room _ _ _ _ _ (given .1) (r .kept .1 .1 .1 .1 .0) (e .1), g .1))
 
 pub desk-reconcile-spec : {M : Type 1} → statement M
 desk-reconcile-spec =
@@ -49,8 +45,7 @@ desk-reconcile-spec =
     (tie.spec
     reconcile-requires
     drift-numbers-requires
-    clear-if-short-requires
-    give-requires
+    give-beside-requires
     same-length
     same-length-2
     returns)

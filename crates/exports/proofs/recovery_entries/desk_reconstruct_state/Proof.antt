@@ -8,18 +8,15 @@ use mir.Syntax.{w64}
 use mir.ValLaws.{toZ-ofZ}
 use Rattle.recovery.specs.Recover.{recoveryNumber}
 use Rattle.recovery.specs.declared.recover.Recovery.{Recovery}
-use Rattle.exports.specs.Answer.{roomNumber, unlessShort}
-use Rattle.exports.specs.RecoveryAnswer.{recoveryBytes}
-use Rattle.exports.proofs.Lent.{beside}
+use Rattle.answers.specs.Answer.{roomNumber, unlessShort}
+use Rattle.answers.specs.RecoveryAnswer.{recoveryBytes}
+use Rattle.answers.proofs.Given.{beside}
 
 reconstruct-state-requires : tie.Need-reconstruct-state-requires
 reconstruct-state-requires c κs = search needs
 
-clear-if-short-requires : tie.Need-clear-if-short-requires
-clear-if-short-requires c κs = search needs
-
-clear-if-short-requires-2 : tie.Need-clear-if-short-requires-2
-clear-if-short-requires-2 c κs = search needs
+clear-both-if-short-requires : tie.Need-clear-both-if-short-requires
+clear-both-if-short-requires c κs = search needs
 
 give-recovery-requires : tie.Need-give-recovery-requires
 give-recovery-requires c κs = search needs
@@ -36,9 +33,9 @@ same-length-3 c = search needs
 returns : tie.Need-returns
 returns c =
     let give = c .before .before in
-    let clear-positions = give .before .before .before .before in
-    let clear-orders = clear-positions .before .before .before .before in
-    let reconstruct = clear-orders .before .before .before .before .before .before in
+    let clear = give .before .before .before .before .before .before in
+    let cleared = clear .clear-both-if-short .ensures in
+    let reconstruct = clear .before .before .before .before .before .before .before in
     let a = reconstruct .before .before .before .before .before .before .before in
     let room = length (a .args .answer .now) in
     let r = reconstruct .reconstruct-state in
@@ -46,9 +43,9 @@ returns c =
     let g = give .give-recovery .ensures in (
       g .0 ∙ ap (λ (x : Recovery). roomNumber 200 (recoveryNumber x) room) (e .0),
       (
-        beside 200 room _ _ _ _ _ (clear-orders .clear-if-short .ensures) (r .kept .1 .1 .0) (e .1),
+        beside 200 room _ _ _ _ _ (cleared .0) (r .kept .1 .1 .0) (e .1),
         (
-          beside 200 room _ _ _ _ _ (clear-positions .clear-if-short2 .ensures) (r .kept .1 .1 .1 .0) (e .2),
+          beside 200 room _ _ _ _ _ (cleared .1) (r .kept .1 .1 .1 .0) (e .2),
           g .1 ∙ ap (λ (x : Recovery). unlessShort 200 room room (recoveryBytes x room)) (e .0),
         ),
       ),
@@ -59,8 +56,7 @@ desk-reconstruct-state-spec =
     tie.close
     (tie.spec
     reconstruct-state-requires
-    clear-if-short-requires
-    clear-if-short-requires-2
+    clear-both-if-short-requires
     give-recovery-requires
     same-length
     same-length-2

@@ -3,7 +3,7 @@ use borrow.Author.Needs.{needs}
 use Rattle.exports.proofs.recovery_entries.desk_recovery_action.Statement.{statement}
 use Rattle.exports.proofs.recovery_entries.desk_recovery_action.Tie as tie
 use lib.ListN.{length}
-use Rattle.exports.proofs.Given.{of-same}
+use Rattle.answers.proofs.Given.{of-same}
 
 lent-action-requires : tie.Need-lent-action-requires
 lent-action-requires c κs = search needs

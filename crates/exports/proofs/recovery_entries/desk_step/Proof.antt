@@ -3,7 +3,7 @@ use borrow.Author.Needs.{needs}
 use Rattle.exports.proofs.recovery_entries.desk_step.Statement.{statement}
 use Rattle.exports.proofs.recovery_entries.desk_step.Tie as tie
 use lib.ListN.{length}
-use Rattle.exports.proofs.Given.{of-same}
+use Rattle.answers.proofs.Given.{of-same}
 
 lent-step-requires : tie.Need-lent-step-requires
 lent-step-requires c κs = search needs

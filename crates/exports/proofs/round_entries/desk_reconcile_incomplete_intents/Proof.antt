@@ -8,9 +8,9 @@ use mir.Syntax.{w64}
 use mir.ValLaws.{toZ-ofZ}
 use Rattle.intents.specs.Intents.{reconcilingNumber}
 use Rattle.intents.specs.declared.Reconciling.{Reconciling}
-use Rattle.exports.specs.Answer.{roomNumber, unlessShort}
-use Rattle.exports.specs.RoundAnswer.{reconcilingBytes}
-use Rattle.exports.proofs.Lent.{beside}
+use Rattle.answers.specs.Answer.{roomNumber, unlessShort}
+use Rattle.answers.specs.RoundAnswer.{reconcilingBytes}
+use Rattle.answers.proofs.Given.{beside}
 
 lent-reconciling-requires : tie.Need-lent-reconciling-requires
 lent-reconciling-requires c κs = search needs

@@ -7,10 +7,9 @@ use lib.ListN.{length}
 use mir.Syntax.{w64}
 use mir.ValLaws.{toZ-ofZ}
 use Rattle.rounds.specs.declared.Rounded.{Rounded}
-use Rattle.exports.specs.Answer.{numbers, numberAlone}
-use Rattle.exports.specs.RoundAnswer.{roundedNumbers}
-use Rattle.exports.proofs.Given.{of-same}
-use Rattle.exports.proofs.Lent.{beside}
+use Rattle.answers.specs.Answer.{numbers, numberAlone}
+use Rattle.answers.specs.RoundAnswer.{roundedNumbers}
+use Rattle.answers.proofs.Given.{of-same, beside}
 
 round-requires : tie.Need-round-requires
 round-requires c κs = search needs
@@ -18,20 +17,14 @@ round-requires c κs = search needs
 rounded-numbers-requires : tie.Need-rounded-numbers-requires
 rounded-numbers-requires c κs = search needs
 
+clear-both-if-short-requires : tie.Need-clear-both-if-short-requires
+clear-both-if-short-requires c κs = search needs
+
 clear-if-short-requires : tie.Need-clear-if-short-requires
 clear-if-short-requires c κs = search needs
 
-clear-if-short-requires-2 : tie.Need-clear-if-short-requires-2
-clear-if-short-requires-2 c κs = search needs
-
-clear-if-short-requires-3 : tie.Need-clear-if-short-requires-3
-clear-if-short-requires-3 c κs = search needs
-
-clear-if-short-requires-4 : tie.Need-clear-if-short-requires-4
-clear-if-short-requires-4 c κs = search needs
-
-give-requires : tie.Need-give-requires
-give-requires c κs = search needs
+give-beside-requires : tie.Need-give-beside-requires
+give-beside-requires c κs = search needs
 
 same-length : tie.Need-same-length
 same-length c = search needs
@@ -50,27 +43,27 @@ same-length-5 c = search needs
 
 returns : tie.Need-returns
 returns c =
-    let give = c .before .before in
-    let clear4 = give .before .before .before .before in
-    let clear3 = clear4 .before .before .before .before in
-    let clear2 = clear3 .before .before .before .before in
-    let clear = clear2 .before .before .before .before in
-    let rounded = clear .before .before in
+    let give = c .before .before .before .before in
+    let given = give .give-beside .ensures in
+    let clear = give .before .before .before .before .before in
+    let both = clear .before .before .before .before .before .before in
+    let cleared = both .clear-both-if-short .ensures in
+    let rounded = both .before .before .before in
     let round = rounded .before .before .before .before .before .before .before .before .before in
     let start = round .before .before .before .before .before .before .before .before .before .before .before .before .before in
     let room = length (start .args .answer .now) in
     let r = round .round in
     let e = rw (toZ-ofZ w64 (start .args .at) (start .fits .at), toZ-ofZ w64 (start .args .time) (start .fits .time)) at (r .ensures) in
-    let g = of-same room (rounded .rounded-numbers .ensures ∙ ap (λ (x : Rounded). numbers (numberAlone (roundedNumbers x))) (e .0)) (give .give .ensures) in
+    let g = of-same room (rounded .rounded-numbers .ensures ∙ ap (λ (x : Rounded). numbers (numberAlone (roundedNumbers x))) (e .0)) (given .0, given .2) in
     let k = r .kept .1 .1 .1 .1 .1 .1 in (
       g .0,
       (
-        beside 16 room _ _ _ _ _ (clear .clear-if-short .ensures) (k .0) (e .1),
+        beside 16 room _ _ _ _ _ (cleared .0) (k .0) (e .1),
         (
-          beside 16 room _ _ _ _ _ (clear2 .clear-if-short2 .ensures) (k .1 .0) (e .2),
+          beside 16 room _ _ _ _ _ (cleared .1) (k .1 .0) (e .2),
           (
-            beside 16 room _ _ _ _ _ (clear3 .clear-if-short3 .ensures) (k .1 .1 .0) (e .3),
-            (beside 16 room _ _ _ _ _ (clear4 .clear-if-short4 .ensures) (k .1 .1 .1 .0) (e .4), g .1),
+            beside 16 room _ _ _ _ _ (clear .clear-if-short .ensures) (k .1 .1 .0) (e .3),
+            (beside 16 room _ _ _ _ _ (given .1) (k .1 .1 .1 .0) (e .4), g .1),
           ),
         ),
       ),
@@ -82,11 +75,9 @@ desk-round-spec =
     (tie.spec
     round-requires
     rounded-numbers-requires
+    clear-both-if-short-requires
     clear-if-short-requires
-    clear-if-short-requires-2
-    clear-if-short-requires-3
-    clear-if-short-requires-4
-    give-requires
+    give-beside-requires
     same-length
     same-length-2
     same-length-3

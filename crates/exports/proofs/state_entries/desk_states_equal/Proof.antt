@@ -3,7 +3,7 @@ use borrow.Author.Needs.{needs}
 use Rattle.exports.proofs.state_entries.desk_states_equal.Statement.{statement}
 use Rattle.exports.proofs.state_entries.desk_states_equal.Tie as tie
 use lib.ListN.{length}
-use Rattle.exports.proofs.Given.{of-same}
+use Rattle.answers.proofs.Given.{of-same}
 
 lent-equality-requires : tie.Need-lent-equality-requires
 lent-equality-requires c κs = search needs

@@ -1,9 +1,9 @@
--- `exports::types_entries::desk_f64_cents_checked` meets its contract, by those of `f64_cents_checked` and `answered`. Assumes nothing.
+-- `exports::types_entries::desk_f64_cents_checked` meets its contract, by those of `f64_cents_checked` and `give_fixed`. Assumes nothing.
 use borrow.Author.Needs.{needs}
 use mathlib.Core.Path.{refl, sym, ap, _∙_}
 use lib.ListN.{length}
 use Rattle.types.specs.Fixed.{toCents}
-use Rattle.exports.proofs.Answers.{carry}
+use Rattle.answers.proofs.Answers.{carry}
 use Rattle.exports.proofs.types_entries.desk_f64_cents_checked.Statement.{statement}
 use Rattle.exports.proofs.types_entries.desk_f64_cents_checked.Tie as tie
 
@@ -13,8 +13,8 @@ from-bits-requires c κs = search needs
 f64-cents-checked-requires : tie.Need-f64-cents-checked-requires
 f64-cents-checked-requires c κs = search needs
 
-answered-requires : tie.Need-answered-requires
-answered-requires c κs = search needs
+give-fixed-requires : tie.Need-give-fixed-requires
+give-fixed-requires c κs = search needs
 
 same-length : tie.Need-same-length
 same-length c = search needs
@@ -24,9 +24,9 @@ returns c =
     let a = c .before .before in
     let f = a .before .before in
     let e = f .f64-cents-checked .ensures ∙ ap toCents (f .before .from-bits .ensures) in
-    carry (length (f .before .before .before .args .answer .now)) (sym e) refl (a .answered .ensures)
+    carry (length (f .before .before .before .args .answer .now)) (sym e) refl (a .give-fixed .ensures)
 
 pub desk-f64-cents-checked-spec : {M : Type 1} → statement M
 desk-f64-cents-checked-spec =
     tie.close
-    (tie.spec from-bits-requires f64-cents-checked-requires answered-requires same-length returns)
+    (tie.spec from-bits-requires f64-cents-checked-requires give-fixed-requires same-length returns)

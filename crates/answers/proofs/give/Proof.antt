@@ -1,0 +1,50 @@
+-- `answers::give` meets its contract: two numbers in cleared bytes, by the contract of `within`. Assumes nothing.
+use borrow.Author.Needs.{needs}
+use Rattle.answers.proofs.give.Statement.{statement}
+use Rattle.answers.proofs.give.Tie as tie
+use mathlib.Core.Path.{refl, ap, _∙_}
+use mathlib.Core.List.{List}
+use Prim.Native.Nat.{ℕ}
+use lib.Seq.{sets}
+use Rattle.wire.specs.Le.{bytesOf}
+use Rattle.answers.specs.Answer.{answerBytes}
+use Rattle.answers.proofs.Given.{within-same}
+
+clear-requires : tie.Need-clear-requires
+clear-requires c κs = search needs
+
+put-u64-requires : tie.Need-put-u64-requires
+put-u64-requires c κs = search needs
+
+put-u64-requires-2 : tie.Need-put-u64-requires-2
+put-u64-requires-2 c κs = search needs
+
+within-requires : tie.Need-within-requires
+within-requires c κs = search needs
+
+same-length : tie.Need-same-length
+same-length c = search needs
+
+returns : tie.Need-returns
+unfolding answerBytes
+returns c =
+    let within = c .before .before in
+    let second = within .before .before .before .before in
+    let first = second .before .before .before .before in
+    let clear = first .before .before .before .before in
+    let n = clear .before .before .before .args .n in
+    within-same 16 refl (second .put-u642 .kept .0 ∙ first .put-u64 .kept .0 ∙ clear .clear .kept .0)
+    (second .put-u642 .ensures
+    ∙ ap (λ (d : List ℕ). sets d 8 (bytesOf 8 (n .b))) (first .put-u64 .ensures ∙ ap (λ (d : List ℕ). sets d 0 (bytesOf 8 (n .a))) (clear .clear .ensures)))
+    (within .within .ensures)
+
+pub give-spec : {M : Type 1} → statement M
+give-spec =
+    tie.close
+    (tie.spec
+    clear-requires
+    put-u64-requires
+    put-u64-requires-2
+    within-requires
+    same-length
+    returns)

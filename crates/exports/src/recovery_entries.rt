@@ -1,5 +1,5 @@
-// The entries of the crates `recovery` and `reader`. Each returns the refusal's number, 0 where there is none. Marks go in a record of 176 bytes
-// (crate `marks_record`); a record that is none is refused by 2.
+// The entries of the crates `recovery`, `marks` (the action) and `reader`. Each returns the refusal's number, 0 where there is none. Marks go in a
+// record of 176 bytes (crate `marks_record`); a record that is none is refused by 2.
 ghost use mathlib.Core.Path.{_≡_};
 ghost use lib.ListN.{length, replicate};
 ghost use lib.Seq.{sets};
@@ -10,9 +10,9 @@ ghost use Rattle.exports.specs.Answer.{numbers, roomNumber, unlessShort,
 ghost use Rattle.exports.specs.RecoveryAnswer.{actionCode, recoveredBytes, recoveryBytes, actionNumbers, stepNumbers, marksFirst, lentActionNumbers, lentStepNumbers, keptIfShort, recordIf, recordAfter};
 use crate::book_entries;
 use crate::book_entries::Numbers;
+use marks::action::Action;
+use marks::action::RecoveryAction;
 use reader::Stepped;
-use recovery::action::Action;
-use recovery::action::RecoveryAction;
 use recovery::recover::Recovered;
 use recovery::recover::Recovery;
 use wire::layout::Layout;
@@ -141,7 +141,7 @@ fn lent_action(marks: &[u8], orders: &[u8]) -> Numbers
     match marks_record::check(marks) {
         Layout::Sound => {
             let m = marks_record::marks_of(marks);
-            action_numbers(recovery::action::recovery_action(m, orders))
+            action_numbers(m.recovery_action(orders))
         }
         Layout::Oversize => broken_marks(Layout::Sound),
         Layout::Broken => broken_marks(Layout::Sound),

@@ -13,11 +13,11 @@ use Rattle.marks.specs.declared.Marks.{Marks}
 use Rattle.marks_record.specs.MarksRecord.{truthNumber, marksBytes, marksOf, marksLayout}
 use Rattle.book.specs.Layout.{bookLayout}
 use Rattle.sheet.specs.Sheet.{sheetLayout}
-use Rattle.recovery.specs.Action.{lentAction}
-use Rattle.recovery.specs.declared.action.Action.{Action}
-use Rattle.recovery.specs.declared.action.Action.the-variants as A
-use Rattle.recovery.specs.declared.action.RecoveryAction.{RecoveryAction}
-use Rattle.recovery.specs.declared.action.RecoveryAction.the-variants.{Restart, Resume, ManualReview}
+use Rattle.marks.specs.Action.{lentAction}
+use Rattle.marks.specs.declared.action.Action.{Action}
+use Rattle.marks.specs.declared.action.Action.the-variants as A
+use Rattle.marks.specs.declared.action.RecoveryAction.{RecoveryAction}
+use Rattle.marks.specs.declared.action.RecoveryAction.the-variants.{Restart, Resume, ManualReview}
 use Rattle.recovery.specs.declared.recover.Recovered.{Recovered}
 use Rattle.recovery.specs.declared.recover.Recovery.{Recovery}
 use Rattle.recovery.specs.declared.recover.Recovery.the-variants as R

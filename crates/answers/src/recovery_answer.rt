@@ -8,9 +8,9 @@ ghost use Rattle.marks_record.specs.MarksRecord.{marksOf};
 ghost use Rattle.answers.specs.Answer.{numbers, roomNumber, unlessShort};
 ghost use Rattle.answers.specs.RecoveryAnswer.{actionCode, recoveredBytes, recoveryBytes, actionNumbers, stepNumbers, lentActionNumbers, lentStepNumbers, keptIfShort, recordIf, recordAfter};
 use crate::Numbers;
+use marks::action::Action;
+use marks::action::RecoveryAction;
 use reader::Stepped;
-use recovery::action::Action;
-use recovery::action::RecoveryAction;
 use recovery::recover::Recovered;
 use recovery::recover::Recovery;
 use wire::layout::Layout;
@@ -87,7 +87,7 @@ pub fn lent_action(marks: &[u8], orders: &[u8]) -> Numbers
         return crate::broken_marks(Layout::Sound);
     }
     let m = marks_record::marks_of(marks);
-    action_numbers(recovery::action::recovery_action(m, orders))
+    action_numbers(m.recovery_action(orders))
 }
 
 fn step_numbers(s: Stepped) -> Numbers

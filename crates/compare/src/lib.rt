@@ -6,9 +6,7 @@ mod passes;
 mod search;
 
 ghost use mathlib.Core.Path.{_≡_};
-ghost use Prim.Native.Nat.{_*_};
-ghost use lib.ListN.{length, drop};
-ghost use Rattle.wire.specs.Le.{le};
+ghost use lib.ListN.{length};
 ghost use Rattle.compare.specs.Compare.{comparison, reportOut};
 ghost use Rattle.compare.specs.Buffer.{Answers};
 use discrepancy::Stored;
@@ -76,14 +74,4 @@ pub fn compare_broker_state(
             Comparison::Broken
         }
     }
-}
-
-// The kind of a report's record at index `i`, counted from 0: zero past the end.
-pub fn kind_at(report: &[u8], i: usize) -> u32
-    ensures { λ r. ⌜ r ≡ le 4 (drop (48 * i) (now (report .entry))) ⌝ }
-{
-    if report.len() / 48 < i {
-        return 0;
-    }
-    wire::u32_at(report, 48 * i)
 }

@@ -21,7 +21,7 @@ use Rattle.marks.specs.Marks.{marksAt}
 use Rattle.effects.specs.Step.{marksBy, positionsOfRows, intended, ordersAt, positionsAt, ordersBy, positionsBy}
 use Rattle.audit.specs.Verdict.{firstFault, walk, found, place, lastEmpty, rules, verdictOf, bookVerdict}
 use Rattle.audit.proofs.BookBytes.{eventTable, bookBytes}
-use Rattle.recovery.specs.Action.{actionOf}
+use Rattle.marks.specs.Action.{actionOf}
 use Rattle.recovery.specs.Recover.{steps, roomy, recovery, ordersOut}
 use Rattle.join.specs.Join.{bookOf}
 use Rattle.intents.specs.Intents.{query, chosen, reached, unreached, entryText, entryBytes, entryTable, entryTexts, addendum, lentAddendum, reconciling, addendumOut}

@@ -5,7 +5,7 @@ use crate::tell;
 use intents::Reconciled;
 use intents::Reconciling;
 use marks::Marks;
-use recovery::action::RecoveryAction;
+use marks::action::RecoveryAction;
 use recovery::recover::Recovered;
 use recovery::recover::Recovery;
 

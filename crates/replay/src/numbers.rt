@@ -4,8 +4,8 @@ use audit::sequence::Highest;
 use audit::sequence::Window;
 use audit::validate::Verdict;
 use compare::Comparison;
-use recovery::action::Action;
-use recovery::action::RecoveryAction;
+use marks::action::Action;
+use marks::action::RecoveryAction;
 use recovery::recover::Recovery;
 use state::Equality;
 

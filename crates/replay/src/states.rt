@@ -17,7 +17,7 @@ fn second_marks(b: &[u8]) -> Marks {
 
 // Section 12.
 fn action(tally: &mut [u64], case: u64, b: &[u8]) {
-    let a = recovery::action::recovery_action(first_marks(b), body::section(b, 3));
+    let a = first_marks(b).recovery_action(body::section(b, 3));
     let agrees = numbers::is_action(body::section(b, 12), a);
     tally::compared(tally, tally::ACTIONS, case, 12, agrees);
 }

@@ -17,8 +17,8 @@ use Rattle.checkpoint.specs.declared.Checkpoint.{Checkpoint}
 use Rattle.audit.specs.Verdict.{bookVerdict, verdictNumbers}
 use Rattle.audit.specs.declared.validate.Verdict.{Verdict}
 use Rattle.recovery.specs.Recover.{recovery, ordersOut, positionsOut}
-use Rattle.recovery.specs.declared.action.RecoveryAction.{RecoveryAction}
-use Rattle.recovery.specs.declared.action.RecoveryAction.the-variants.{Restart, Resume, ManualReview}
+use Rattle.marks.specs.declared.action.RecoveryAction.{RecoveryAction}
+use Rattle.marks.specs.declared.action.RecoveryAction.the-variants.{Restart, Resume, ManualReview}
 use Rattle.recovery.specs.declared.recover.Recovered.{Recovered}
 use Rattle.recovery.specs.declared.recover.Recovery.{Recovery}
 use Rattle.recovery.specs.declared.recover.Recovery.the-variants as R

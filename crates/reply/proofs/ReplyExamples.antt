@@ -18,7 +18,7 @@ use Rattle.records.specs.Record.{tableOk}
 use Rattle.records.specs.Search.{anyWhere}
 use Rattle.marks.specs.Marks.{marksAt}
 use Rattle.effects.specs.Step.{marksBy, ordersBy, ordersAt, intended, positionsBy, positionsAt, positionsOfRows}
-use Rattle.recovery.specs.Action.{queriedAction, actionOf}
+use Rattle.marks.specs.Action.{queriedAction, actionOf}
 use Rattle.recovery.specs.Recover.{steps, roomy, recovery, ordersOut, positionsOut}
 use Rattle.compare.specs.Report.{pass, expectedOf, report}
 use Rattle.compare.specs.Compare.{comparison}

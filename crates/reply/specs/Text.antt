@@ -7,8 +7,8 @@ use Rattle.checkpoint.specs.Checkpoint.{ascii}
 use Rattle.checkpoint.specs.declared.Checkpoint.{Checkpoint}
 use Rattle.audit.specs.Verdict.{verdictNumbers}
 use Rattle.audit.specs.declared.validate.Verdict.{Verdict}
-use Rattle.recovery.specs.declared.action.RecoveryAction.{RecoveryAction}
-use Rattle.recovery.specs.declared.action.RecoveryAction.the-variants.{Restart, Resume, ManualReview}
+use Rattle.marks.specs.declared.action.RecoveryAction.{RecoveryAction}
+use Rattle.marks.specs.declared.action.RecoveryAction.the-variants.{Restart, Resume, ManualReview}
 use Rattle.recovery.specs.declared.recover.Recovered.{Recovered}
 use Rattle.lines.specs.Lines.{checkpointName, newline, field, line}
 

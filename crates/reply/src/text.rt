@@ -9,7 +9,7 @@ ghost use Rattle.audit.specs.Verdict.{verdictNumbers};
 ghost use Rattle.reply.specs.Text.{verdictLine, actionLine, lastLine, recoveredLines, kindLine, reportLines, refusedLine};
 use audit::validate::Verdict;
 use checkpoint::Checkpoint;
-use recovery::action::RecoveryAction;
+use marks::action::RecoveryAction;
 use recovery::recover::Recovered;
 
 // The verdict's three numbers.

@@ -24,7 +24,7 @@ use Rattle.records.specs.declared.order.Order.{Order}
 use Rattle.records.proofs.Orders.{order-size, orders-in, orders-sound}
 use Rattle.marks.specs.declared.Marks.{Marks}
 use Rattle.effects.specs.Event.{eventsOf}
-use Rattle.recovery.specs.Action.{actionOf}
+use Rattle.marks.specs.Action.{actionOf}
 use Rattle.recovery.specs.Recover.{State, firstState, roomy, stateOf, timeLayout, doneIf, refusedOr, recovery, bytesIf, ordersOut}
 use Rattle.recovery.specs.declared.recover.Recovered.{Recovered}
 use Rattle.recovery.specs.declared.recover.Recovery.{Recovery}

@@ -29,7 +29,7 @@ use Rattle.effects.specs.Step.{marksBy, positionsOfRows, intended, ordersAt, po
 use Rattle.audit.specs.Verdict.{firstFault, walk, found, place, lastEmpty, rules, verdictOf, bookVerdict}
 use Rattle.audit.specs.declared.validate.Verdict.the-variants as Ver
 use Rattle.audit.proofs.BookBytes.{EventParts, part, numbered, numberedWith, eventTable, bookBytes}
-use Rattle.recovery.specs.Action.{actionOf}
+use Rattle.marks.specs.Action.{actionOf}
 use Rattle.recovery.specs.Recover.{steps, roomy, recovery, ordersOut, positionsOut}
 use Rattle.join.specs.Join.{bookOf, each, movedCell, movedRow, movedEvent, joined, joining, joinOut}
 use Rattle.intents.specs.Intents.{query, chosen, reached, unreached, entryText, entryBytes, entryTable, entryTexts, addendum, reconciling, addendumOut}

@@ -127,6 +127,10 @@ fn judged(data: &[u8]) {
     let due = question.ample();
     let mut run = RUN.get_or_init(begin).lock().unwrap_or_else(|poisoned| poisoned.into_inner());
     run.inputs += 1;
+    if run.inputs % 1_000_000 == 0 {
+        let (reached, all) = blocks::reached();
+        eprintln!("{} inputs judged, no disagreement; blocks of the library reached: {reached} of {all}", run.inputs);
+    }
     *run.answers.entry((input.entry, refusal(&due))).or_default() += 1;
     let fault = run.fault;
     let all = rooms(&question, &due, input.pick);

@@ -182,10 +182,10 @@ impl Tables {
             2 => put(&mut cell, 8, whole(rng) | 1 << 63),
             3 => put(&mut cell, 8, float(rng)),
             4 => {
-                let text = if rng.chance(60) { rng.pick(&SYMBOLS) } else { rng.pick(&TEXTS) };
+                let text = if rng.chance(60) { any_symbol(rng) } else { rng.pick(&TEXTS).to_vec() };
                 let (first, length) = match rng.below(8) {
                     0 => (rng.below(self.text.len() + 1), rng.below(9)),
-                    _ => self.text(text),
+                    _ => self.text(&text),
                 };
                 put_pair(&mut cell, 8, first, length);
             }
@@ -280,6 +280,28 @@ impl Tables {
         }
     }
 
+    /// A run in its due order, but that some of its events are left out and some have changed places.
+    fn run(&mut self, rng: &mut Rng) {
+        self.events.clear();
+        let (left_out, swaps) = (rng.pick(&[0, 5, 15]), rng.below(3));
+        for name in NAMES {
+            if rng.chance(left_out) {
+                continue;
+            }
+            let mut event = self.event(rng);
+            let (first, length) = self.text(name.as_bytes());
+            put_pair(&mut event, 0, first, length);
+            self.events.push(event);
+        }
+        for _ in 0..swaps {
+            let count = self.events.len();
+            if count > 0 {
+                self.events.swap(rng.below(count), rng.below(count));
+            }
+        }
+        self.renumbered();
+    }
+
     /// Numbers that rise, from event to event.
     fn renumbered(&mut self) {
         for (i, event) in self.events.iter_mut().enumerate() {
@@ -344,8 +366,10 @@ fn book(rng: &mut Rng, bytes: &mut Vec<u8>, limit: usize) {
     for _ in 0..rng.within(1, 3) {
         tables.altered(rng);
     }
-    if rng.chance(10) {
-        tables.renumbered();
+    match rng.below(20) {
+        0 => tables.run(rng),
+        1 | 2 => tables.renumbered(),
+        _ => {}
     }
     while HEADER + EVENT * tables.events.len() + ROW * tables.rows.len() + tables.text.len() > limit {
         match (tables.events.len(), tables.rows.len()) {
@@ -366,14 +390,27 @@ fn book(rng: &mut Rng, bytes: &mut Vec<u8>, limit: usize) {
     }
 }
 
+/// A symbol, or one byte beside the allowed ones in it.
+fn any_symbol(rng: &mut Rng) -> Vec<u8> {
+    if rng.chance(60) {
+        return SYMBOLS[rng.below(SYMBOLS.len())].to_vec();
+    }
+    let mut out: Vec<u8> = (0..rng.within(1, 8)).map(|_| rng.pick(b"AAMZZ09.-")).collect();
+    if rng.chance(15) {
+        let at = rng.below(out.len());
+        out[at] = rng.pick(b"/:@[,`az{ \0\x7f\xff");
+    }
+    out
+}
+
 /// A symbol field of nine bytes, new or put right.
 fn put_symbol(rng: &mut Rng, field: &mut [u8], fresh: bool) {
     let length = field[8] as usize;
     let right = (1..=8).contains(&length) && field[..length].iter().all(|b| symbol::allowed(*b)) && field[length..8].iter().all(|b| *b == 0);
     if fresh || !right {
-        let text = SYMBOLS[rng.below(SYMBOLS.len() - 1)];
+        let text = if fresh { any_symbol(rng) } else { SYMBOLS[rng.below(SYMBOLS.len() - 1)].to_vec() };
         field.fill(0);
-        field[..text.len()].copy_from_slice(text);
+        field[..text.len()].copy_from_slice(&text);
         field[8] = text.len() as u8;
     }
 }

@@ -2,6 +2,7 @@
 //! again, so that most inputs come past refusals 1 and 2.
 
 use oracle::doc01::book::{CELL, EVENT, HEADER, ROW};
+use oracle::doc01::drift::MAX_COUNT as LIST;
 use oracle::doc01::records::{HAS_ID, HAS_REASON, MARKS, ORDER, POSITION};
 use oracle::doc01::{symbol, Book, Marks, Sheet, LAST_TIME, NAMES};
 use oracle::generator::Rng;
@@ -88,7 +89,7 @@ fn float(rng: &mut Rng) -> u64 {
         0 => rng.next(),
         1 => (rng.within(0, 200_000) as f64 / 100.0 - 1000.0).to_bits(),
         2 => rng.pick(&FLOATS).to_bits().wrapping_add(rng.within(0, 2) as u64).wrapping_sub(1),
-        3 => (rng.next() as i64 >> rng.below(63)).to_le_bytes().iter().fold(0u64, |n, b| n << 8 | *b as u64),
+        3 => ((rng.next() as i64 >> rng.below(63)) as f64).to_bits(),
         _ => rng.pick(&FLOATS).to_bits(),
     }
 }
@@ -566,6 +567,11 @@ fn records(rng: &mut Rng, bytes: &mut Vec<u8>, width: usize, floats: bool, limit
     };
     for _ in 0..rng.within(1, 3) {
         table(rng, &mut all, fresh, altered);
+    }
+    // About as many records as a list of drift may have.
+    if rng.chance(20) && limit >= width * (LIST + 1) && !all.is_empty() {
+        let count = rng.within(LIST - 1, LIST + 1);
+        all = all.iter().cycle().take(count).cloned().collect();
     }
     all.truncate(limit / width);
     if rng.chance(95) {

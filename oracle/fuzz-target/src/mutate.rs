@@ -665,15 +665,18 @@ fn altered(rng: &mut Rng, input: &mut Input, limit: usize) {
             let i = rng.below(entry.numbers.len());
             input.numbers[i] = number(rng, entry.numbers[i]);
         }
-        // The second of two states becomes the first.
-        4 if input.slices.len() == 8 => {
-            let i = rng.below(4);
-            input.slices[4 + i] = input.slices[i].clone();
+        // The second of two states becomes the first, or the first but for one slice.
+        4..=7 if input.slices.len() == 8 => {
+            let (first, second) = input.slices.split_at_mut(4);
+            second.clone_from_slice(first);
+            if rng.chance(80) {
+                let i = 4 + rng.below(4);
+                slice(rng, kind(entry.inputs[i]), &mut input.slices[i], limit);
+            }
         }
         _ if !entry.inputs.is_empty() => {
             let i = rng.below(entry.inputs.len());
-            let name = kind(entry.inputs[i]).to_string();
-            slice(rng, &name, &mut input.slices[i], limit);
+            slice(rng, kind(entry.inputs[i]), &mut input.slices[i], limit);
         }
         _ => {
             let i = rng.below(entry.numbers.len());

@@ -547,7 +547,9 @@ fn records(rng: &mut Rng, bytes: &mut Vec<u8>, width: usize, floats: bool, limit
             record[9] = rng.within(0, 31) as u8;
             record[12..16].copy_from_slice(&(whole(rng) as u32).to_le_bytes());
             for text in [32, 40, 48] {
-                put_pair(record, text, rng.below(4), rng.below(4));
+                // Now and then a reference that is inside only if its upper bytes go unread.
+                let far = [rng.chance(4), rng.chance(4)].map(|far| if far { 1 << 16 } else { 0 });
+                put_pair(record, text, rng.below(4) + far[0], rng.below(4) + far[1]);
             }
         }
     };
@@ -669,7 +671,12 @@ fn altered(rng: &mut Rng, input: &mut Input, limit: usize) {
         4..=7 if input.slices.len() == 8 => {
             let (first, second) = input.slices.split_at_mut(4);
             second.clone_from_slice(first);
-            if rng.chance(80) {
+            if rng.chance(25) {
+                let mut tables = Tables::of(&second[0]);
+                let front = tables.text.len().min(12);
+                tables.text.iter_mut().skip(rng.below(front)).take(1).for_each(|byte| *byte ^= 1);
+                second[0] = tables.bytes();
+            } else if rng.chance(80) {
                 let i = 4 + rng.below(4);
                 slice(rng, kind(entry.inputs[i]), &mut input.slices[i], limit);
             }

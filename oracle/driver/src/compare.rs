@@ -217,15 +217,20 @@ fn of_drift(case: &DriftCase) -> Vec<Question> {
     ]
 }
 
+/// The questions of a case.
+pub fn questions(kind: &str, seed: u64, number: u64) -> Result<Vec<Question>, String> {
+    let rng = &mut Rng::new("altered", seed, number);
+    match generator::case(kind, seed, number) {
+        Some(Case::Log(case)) => Ok(of_log(kind, &case, rng)),
+        Some(Case::Records(case)) => Ok(of_records(&case)),
+        Some(Case::Drift(case)) => Ok(of_drift(&case)),
+        _ => Err(format!("no kind: {kind}")),
+    }
+}
+
 /// The first question of a case on which the two disagree.
 fn disagreement(kind: &str, seed: u64, number: u64, fault: Option<Fault>, counts: &mut Counts) -> Result<Option<Question>, String> {
-    let rng = &mut Rng::new("altered", seed, number);
-    let questions = match generator::case(kind, seed, number) {
-        Some(Case::Log(case)) => of_log(kind, &case, rng),
-        Some(Case::Records(case)) => of_records(&case),
-        Some(Case::Drift(case)) => of_drift(&case),
-        _ => return Err(format!("no kind: {kind}")),
-    };
+    let questions = questions(kind, seed, number)?;
     counts.cases += 1;
     for question in questions {
         let due = question.ample();

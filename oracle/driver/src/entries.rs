@@ -16,6 +16,7 @@ pub struct Due {
     pub answer: Vec<u8>,
 }
 
+#[derive(Clone, Copy)]
 pub struct Entry {
     pub name: &'static str,
     /// What the inputs and numbers are, for a print.
@@ -38,22 +39,22 @@ const RECOVERED: usize = 176 + 24;
 const TWO: usize = 16;
 const THREE: usize = 24;
 
-fn numbers(of: &[u64]) -> Vec<u8> {
+pub(crate) fn numbers(of: &[u64]) -> Vec<u8> {
     of.iter().flat_map(|n| n.to_le_bytes()).collect()
 }
 
-fn refused(refusal: u32) -> Due {
+pub(crate) fn refused(refusal: u32) -> Due {
     Due { refusal, outputs: Vec::new(), answer: Vec::new() }
 }
 
-fn two(said: Result<(u64, u64), u32>) -> Due {
+pub(crate) fn two(said: Result<(u64, u64), u32>) -> Due {
     match said {
         Ok((a, b)) => Due { refusal: 0, outputs: Vec::new(), answer: numbers(&[a, b]) },
         Err(refusal) => refused(refusal),
     }
 }
 
-fn written(said: Result<(Vec<u8>, u64, u64), u32>) -> Due {
+pub(crate) fn written(said: Result<(Vec<u8>, u64, u64), u32>) -> Due {
     match said {
         Ok((output, a, b)) => Due { refusal: 0, outputs: vec![output], answer: numbers(&[a, b]) },
         Err(refusal) => refused(refusal),
@@ -61,7 +62,7 @@ fn written(said: Result<(Vec<u8>, u64, u64), u32>) -> Due {
 }
 
 /// Lent marks; a record that is none is refused by 2, after 1 of whatever is lent beside it.
-fn marks(bytes: &[u8]) -> Result<Marks, u32> {
+pub(crate) fn marks(bytes: &[u8]) -> Result<Marks, u32> {
     Marks::parse(bytes).ok_or(2)
 }
 
@@ -141,7 +142,7 @@ fn step(inputs: &[Vec<u8>], numbers: &[u64]) -> Result<(Vec<u8>, u64, u64), u32>
     Book::limits(&inputs[0])?;
     let marks = marks(&inputs[1])?;
     let book = Book::parse(&inputs[0])?;
-    let next = numbers[0] as usize;
+    let next = numbers[0] as u32 as usize;
     if next >= book.events.len() {
         return Ok((inputs[1].clone(), 0, 0));
     }
@@ -359,4 +360,54 @@ pub static ROUND: Entry = Entry {
     held: false,
     due: |inputs, numbers, rooms| round(inputs, numbers, rooms).unwrap_or_else(refused),
     call: library::desk_round,
+};
+
+fn converted(said: Result<i64, u32>) -> Due {
+    match said {
+        Ok(value) => Due { refusal: 0, outputs: Vec::new(), answer: numbers(&[value as u64]) },
+        Err(refusal) => refused(refusal),
+    }
+}
+
+pub static FIXED: Entry = Entry {
+    name: "desk_f64_to_fixed_checked",
+    inputs: &[],
+    numbers: &["value", "scale"],
+    outputs: 0,
+    answer: 8,
+    held: false,
+    due: |_, numbers, _| converted(judge::f64_to_fixed_checked(numbers[0], numbers[1])),
+    call: library::desk_f64_to_fixed_checked,
+};
+
+pub static CENTS: Entry = Entry {
+    name: "desk_f64_cents_checked",
+    inputs: &[],
+    numbers: &["value"],
+    outputs: 0,
+    answer: 8,
+    held: false,
+    due: |_, numbers, _| converted(judge::f64_cents_checked(numbers[0])),
+    call: library::desk_f64_cents_checked,
+};
+
+/// What Rust's own operations give for the entries without slices; any NaN has the bits that docs/DECISIONS.md F-17 says.
+fn plain(n: u64) -> Due {
+    let bits = |value: f64| if value.is_nan() { 0x7ff8_0000_0000_0000 } else { value.to_bits() };
+    let float = f64::from_bits(n);
+    let whole = [bits(float), float.is_finite() as u64, float as i64 as u64, (n as i64 as f64).to_bits(), (n as f64).to_bits()];
+    let ids = [n as i32 as i64 as u64, n as i64 as i32 as u64];
+    let answer = numbers(&[&whole[..], &[bits(float.sqrt())], &ids].concat());
+    Due { refusal: 0, outputs: Vec::new(), answer }
+}
+
+pub static PLAIN: Entry = Entry {
+    name: "desk_sqrt and the other entries without slices",
+    inputs: &[],
+    numbers: &["number"],
+    outputs: 0,
+    answer: library::PLAIN,
+    held: false,
+    due: |_, numbers, _| plain(numbers[0]),
+    call: library::plain,
 };

@@ -69,3 +69,46 @@ entry!(desk_held_value(positions, prices; ; answer));
 entry!(desk_join(a, b; k: u64; out, answer));
 entry!(desk_reconcile_incomplete_intents(marks, orders, sheet, queries; time: i64; addendum, answer));
 entry!(desk_round(log, sheet, queries; at: i64, time: i64, k: u64; orders, positions, addendum, joined, answer));
+entry!(desk_f64_to_fixed_checked(; value: u64, scale: u64; answer));
+entry!(desk_f64_cents_checked(; value: u64; answer));
+
+/// Bytes of the answers of the entries without slices, eight each.
+pub const PLAIN: usize = 64;
+
+/// The entries without slices, all asked with one number; their answers one behind the other, as if lent.
+pub fn plain(_: &[Vec<u8>], numbers: &[u64], outputs: &mut [Lent]) -> u32 {
+    extern "C" {
+        fn desk_f64_bits(bits: u64) -> u64;
+        fn desk_is_finite(bits: u64) -> bool;
+        fn desk_saturating_i64(bits: u64) -> i64;
+        fn desk_nearest_i64(n: i64) -> u64;
+        fn desk_nearest_u64(n: u64) -> u64;
+        fn desk_sqrt(bits: u64) -> u64;
+        fn desk_sign_extended(ibkr_id: i32) -> u64;
+        fn desk_truncated_i32(ibkr_id: i64) -> i32;
+    }
+    let n = numbers[0];
+    // Safe: no pointers.
+    let said = unsafe {
+        [
+            desk_f64_bits(n),
+            desk_is_finite(n) as u64,
+            desk_saturating_i64(n) as u64,
+            desk_nearest_i64(n as i64),
+            desk_nearest_u64(n),
+            desk_sqrt(n),
+            desk_sign_extended(n as i32),
+            desk_truncated_i32(n as i64) as u64,
+        ]
+    };
+    let Lent { bytes, room } = &mut outputs[0];
+    let lent = &mut bytes[BESIDE..BESIDE + *room];
+    lent.fill(0);
+    if lent.len() < PLAIN {
+        return 3;
+    }
+    for (to, from) in lent.chunks_mut(8).zip(said) {
+        to.copy_from_slice(&from.to_le_bytes());
+    }
+    0
+}

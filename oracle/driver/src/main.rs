@@ -1,13 +1,10 @@
 //! The library and the original side by side: `oracle/compare`.
 
-mod compare;
-mod entries;
-mod library;
-mod question;
-mod smallest;
 mod time;
 
 use std::process::ExitCode;
+
+use driver::{compare, library};
 
 const USAGE: &str = "usage: compare KIND SEED COUNT         compares COUNT cases of a kind; stops at the first disagreement
        compare faults KIND SEED COUNT  shows that wrong answers would be seen

@@ -89,7 +89,7 @@ impl Question {
     }
 
     /// The rooms of the outputs and of the answer: each around the exact one, the others exact; then those that were asked for.
-    fn all_rooms(&self, due: &Due) -> Vec<Vec<usize>> {
+    pub fn all_rooms(&self, due: &Due) -> Vec<Vec<usize>> {
         let mut exact: Vec<usize> = (0..self.entry.outputs).map(|i| due.outputs.get(i).map_or(0, Vec::len)).collect();
         if let Some(held) = self.held() {
             exact[0] = held.len();
@@ -120,11 +120,16 @@ impl Question {
 
     /// The first rooms in which the library's answer is another, with the due answer and the library's.
     pub fn differs(&self, ample: &Due, fault: Option<Fault>, tally: &mut Tally) -> Option<(Vec<usize>, Answer, Answer)> {
+        self.differs_in(self.all_rooms(ample), ample, fault, tally)
+    }
+
+    /// The same in given rooms.
+    pub fn differs_in(&self, all: Vec<Vec<usize>>, ample: &Due, fault: Option<Fault>, tally: &mut Tally) -> Option<(Vec<usize>, Answer, Answer)> {
         if ample.refusal == UNJUDGED {
             return None;
         }
         let mut last: Option<(Vec<usize>, Due)> = None;
-        for rooms in self.all_rooms(ample) {
+        for rooms in all {
             tally.calls += 1;
             tally.bytes += rooms.iter().sum::<usize>() as u64;
             let outputs = &rooms[..self.entry.outputs];

@@ -3,7 +3,7 @@
 use std::fmt::Write;
 
 use doc01::records::{DISCREPANCY, ORDER, POSITION};
-use doc01::{Book, Refusal, Sheet, ACTIONS, CHECKPOINTS};
+use doc01::{Book, Discrepancy, Refusal, Sheet, State, ACTIONS, CHECKPOINTS};
 
 use crate::fault;
 use crate::original;
@@ -11,12 +11,22 @@ use crate::original;
 /// The most bytes of a file, and the room of each output.
 pub const LENT: usize = 65_536;
 
+/// What the desk says of a book and a sheet that it reads.
+pub struct Said {
+    pub verdict: (u32, u32, u32),
+    pub state: State,
+    pub action: u32,
+    pub report: Vec<Discrepancy>,
+}
+
 /// The reply to `book.bin` and `sheet.bin`; a missing file is read as empty.
 pub fn reply(book: Option<&[u8]>, sheet: Option<&[u8]>) -> String {
-    match lines(book.unwrap_or(&[]), sheet.unwrap_or(&[])) {
-        Ok(text) => text,
-        Err(refusal) => format!("refused {refusal}\n"),
-    }
+    reply_by(original, book.unwrap_or(&[]), sheet.unwrap_or(&[]))
+}
+
+/// The same with what a given reading says.
+pub fn reply_by(asked: fn(&Book, &Sheet) -> Said, book: &[u8], sheet: &[u8]) -> String {
+    lines(asked, book, sheet).unwrap_or_else(|refusal| format!("refused {refusal}\n"))
 }
 
 fn read<T>(bytes: &[u8], parse: fn(&[u8]) -> Result<T, Refusal>) -> Result<T, Refusal> {
@@ -26,21 +36,25 @@ fn read<T>(bytes: &[u8], parse: fn(&[u8]) -> Result<T, Refusal>) -> Result<T, Re
     parse(bytes)
 }
 
-fn lines(book: &[u8], sheet: &[u8]) -> Result<String, Refusal> {
+fn original(book: &Book, sheet: &Sheet) -> Said {
+    let said = |what: &str| -> ! { fault(&format!("the original panicked in {what}")) };
+    let verdict = original::verdict(book).unwrap_or_else(|_| said("validation"));
+    let recovered = original::recover(book, 0).unwrap_or_else(|_| said("recovery"));
+    let report = original::compare_recovered(book, &recovered, sheet).unwrap_or_else(|_| said("comparison"));
+    Said { verdict, state: recovered.state, action: recovered.action, report }
+}
+
+fn lines(asked: fn(&Book, &Sheet) -> Said, book: &[u8], sheet: &[u8]) -> Result<String, Refusal> {
     let book = read(book, Book::parse)?;
     let sheet = read(sheet, Sheet::parse)?;
-    let said = |what: &str| -> ! { fault(&format!("the original panicked in {what}")) };
-    let verdict = original::verdict(&book).unwrap_or_else(|_| said("validation"));
-    let recovered = original::recover(&book, 0).unwrap_or_else(|_| said("recovery"));
-    let report = original::compare_recovered(&book, &recovered, &sheet).unwrap_or_else(|_| said("comparison"));
-    let state = &recovered.state;
+    let Said { verdict, state, action, report } = asked(&book, &sheet);
     if state.orders.len() * ORDER > LENT || state.positions.len() * POSITION > LENT || report.len() * DISCREPANCY > LENT {
         return Err(3);
     }
     let mut out = String::new();
     let mut line = |text: String| writeln!(out, "{text}").expect("a String takes it");
     line(format!("verdict {} {} {}", verdict.0, verdict.1, verdict.2));
-    let action = ACTIONS.get(recovered.action as usize).unwrap_or_else(|| fault("an action without a name"));
+    let action = ACTIONS.get(action as usize).unwrap_or_else(|| fault("an action without a name"));
     line(format!("action {action}"));
     line(format!("last {} {}", CHECKPOINTS[state.marks.checkpoint as usize - 1], state.marks.number));
     line(format!("orders {}", state.orders.len()));

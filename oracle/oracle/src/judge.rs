@@ -9,7 +9,7 @@ use doc01::join::join as joined;
 use doc01::records::{self, DISCREPANCY, ORDER, POSITION};
 use doc01::{Book, Cell, Marks, Refusal, Sheet, State};
 
-use crate::original::{self, Ran};
+use crate::original::{self, Ran, Reconciled};
 use crate::{fault, Panicked};
 
 /// The original's answer where it must not panic.
@@ -109,6 +109,19 @@ pub fn reconcile_incomplete_intents(
     time: i64,
     book_room: usize,
 ) -> Result<Addendum, Refusal> {
+    reconciled_by(original::reconcile, marks, orders, sheet, queries, time, book_room)
+}
+
+/// The same with the entries and the count from a given reading.
+pub fn reconciled_by(
+    asked: fn(&State, &Sheet, &[u8]) -> Reconciled,
+    marks: &Marks,
+    orders: &[u8],
+    sheet: &[u8],
+    queries: &[u8],
+    time: i64,
+    book_room: usize,
+) -> Result<Addendum, Refusal> {
     Sheet::limits(sheet)?;
     let state = State { marks: *marks, orders: records::orders(orders)?, positions: Vec::new() };
     let sheet = Sheet::parse(sheet)?;
@@ -116,7 +129,7 @@ pub fn reconcile_incomplete_intents(
     if marks.number as u128 + 1 + state.intents() as u128 > u64::MAX as u128 {
         return Err(8);
     }
-    let reconciled = original::reconcile(&state, &sheet, queries);
+    let reconciled = asked(&state, &sheet, queries);
     let unreached = said(reconciled.unreached.clone());
     let entries = reconciled.entries.len() as u64;
     if entries + unreached != state.intents() as u64 {

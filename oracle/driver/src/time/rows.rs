@@ -86,10 +86,11 @@ impl Asked {
         let number = self.call();
         let rooms: Vec<usize> = self.lent[..self.entry.outputs].iter().map(|l| l.bytes().len()).collect();
         let due = (self.entry.due)(&self.inputs, &self.numbers, &rooms);
-        let bytes = due.outputs.iter().chain([&due.answer]);
+        // Of a refusal that gives no bytes every output is zero.
+        let none = Vec::new();
+        let bytes = (0..rooms.len()).map(|i| due.outputs.get(i).unwrap_or(&none)).chain([&due.answer]);
         let same = |(lent, due): (&Lent, &Vec<u8>)| !lent.beside() && lent.bytes().starts_with(due) && lent.bytes()[due.len()..].iter().all(|b| *b == 0);
-        let whole = due.outputs.len() == self.entry.outputs || due.refusal != 0;
-        if number != due.refusal || !whole || (due.refusal == 0 && !self.lent.iter().zip(bytes).all(same)) {
+        if number != due.refusal || !self.lent.iter().zip(bytes).all(same) {
             return Err(format!("{} answers {number} or bytes that are not the judge's, {} due", self.entry.name, due.refusal));
         }
         Ok(())

@@ -21,6 +21,15 @@ fn processor() -> u128 {
     at[0] as u128 * 1_000_000_000 + at[1] as u128
 }
 
+/// Merges what the pass before has freed. Else the first large allocation does so, within one count and not within another that is taken off it.
+pub fn merged() {
+    extern "C" {
+        fn malloc_trim(pad: usize) -> i32;
+    }
+    // Safe: glibc's own upkeep of its heap.
+    unsafe { malloc_trim(0) };
+}
+
 /// The one function under which callgrind counts.
 #[no_mangle]
 #[inline(never)]

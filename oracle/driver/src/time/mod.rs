@@ -57,6 +57,7 @@ pub fn once(name: &str, input: &str, side: &str, passes: u64) -> Result<bool, St
     };
     call();
     for _ in 0..passes {
+        measure::merged();
         measured(&mut call);
     }
     Ok(true)

@@ -8,7 +8,9 @@ use driver::{compare, library};
 
 const USAGE: &str = "usage: compare KIND SEED COUNT         compares COUNT cases of a kind; stops at the first disagreement
        compare faults KIND SEED COUNT  shows that wrong answers would be seen
-       compare time                    times the largest book
+       compare time [original]         times of both, or of the original alone, a side of a row to a line
+       compare rows                    the rows that are timed, each with its sides
+       compare once ROW INPUT SIDE N   one side of a row, N times
 kinds: runs wild damaged limits sheets queries records drift";
 
 fn number(text: &str) -> Result<u64, String> {
@@ -20,7 +22,10 @@ fn main() -> ExitCode {
     let args: Vec<&str> = args.iter().map(String::as_str).collect();
     let with = |run: fn(&str, u64, u64) -> Result<bool, String>, kind, seed, count| run(kind, number(seed)?, number(count)?);
     let done = match args[..] {
-        ["time"] => time::time(),
+        ["time"] => time::time(false),
+        ["time", "original"] => time::time(true),
+        ["rows"] => time::list(),
+        ["once", row, input, side, times] => number(times).and_then(|times| time::once(row, input, side, times)),
         ["faults", kind, seed, count] => with(compare::faults, kind, seed, count),
         [kind, seed, count] => with(compare::compare, kind, seed, count),
         _ => Err(USAGE.into()),

@@ -94,34 +94,35 @@ fn numbered(checkpoint: &str) -> u32 {
 /// validate_checkpoints_from_parsed: refusal, event counted from 1, checkpoint; 0 where unused.
 pub fn verdict(book: &Book) -> Ran<(u32, u32, u32)> {
     let text = json::lines(book, Texts::of(book), false);
-    verdict_of(&text)
-}
-
-fn verdict_of(text: &str) -> Ran<(u32, u32, u32)> {
     let result = ran(|| {
-        let events = audit::parse_audit_events_from_str(text)?;
+        let events = audit::parse_audit_events_from_str(&text)?;
         audit::validate_checkpoints_from_parsed(&events)
     })?;
+    Ok(verdict_of(result))
+}
+
+/// The numbers of what validation returned, which it gives as a message.
+pub fn verdict_of(result: rebalancer::error::Result<()>) -> (u32, u32, u32) {
     let message = match result {
-        Ok(()) => return Ok((0, 0, 0)),
+        Ok(()) => return (0, 0, 0),
         Err(Error::AuditValidation(message)) => message,
         Err(other) => fault(&format!("validation: {other:?}")),
     };
     let counted = |text: &str| text.parse().unwrap_or_else(|_| fault(&format!("no event number: {text}")));
     if let Some(line) = message.strip_prefix("Checkpoint at line ").and_then(|m| m.strip_suffix(" missing sequence number")) {
-        return Ok((4, counted(line), 0));
+        return (4, counted(line), 0);
     }
     if let Some((line, _)) = message.strip_prefix("Checkpoint sequence not monotonic at line ").and_then(|m| m.split_once(':')) {
-        return Ok((5, counted(line), 0));
+        return (5, counted(line), 0);
     }
     if let Some(checkpoint) = message.strip_prefix("Missing checkpoint: expected ") {
-        return Ok((6, 0, numbered(checkpoint)));
+        return (6, 0, numbered(checkpoint));
     }
     if let Some(checkpoint) = message.strip_suffix(" must be the first checkpoint") {
-        return Ok((7, 0, numbered(checkpoint)));
+        return (7, 0, numbered(checkpoint));
     }
     match message.split_once(" must come after ") {
-        Some((checkpoint, _)) => Ok((7, 0, numbered(checkpoint))),
+        Some((checkpoint, _)) => (7, 0, numbered(checkpoint)),
         None => fault(&format!("validation: {message}")),
     }
 }

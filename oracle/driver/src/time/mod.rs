@@ -1,0 +1,64 @@
+//! The library beside the original on the same inputs: times, and single sides for an instruction count. `oracle/performance` runs both.
+
+mod inputs;
+mod measure;
+mod rows;
+
+use inputs::Folder;
+use measure::{measured, sets};
+use rows::{Row, ROWS};
+
+/// One line for each side of each row: row, input, size, side, the medians of two sets in microseconds of processor time for one pass over the input,
+/// samples of a set, passes of a sample. With `original`, the library's side is checked but not timed.
+pub fn time(original_only: bool) -> Result<bool, String> {
+    println!("row\tinput\tsize\tside\tfirst\tsecond\tsamples\tpasses");
+    for (name, input) in ROWS.iter().flat_map(|(name, inputs)| inputs.iter().map(move |input| (name, input))) {
+        let folder = Folder::new()?;
+        let row = rows::row(name, input, &folder)?;
+        row.check().map_err(|e| format!("{name} on {input}: {e}"))?;
+        let Row { size, mut library, mut parsed, mut whole, mut parse, .. } = row;
+        let mut sides: Vec<(&str, &mut dyn FnMut() -> u64)> = Vec::new();
+        if !original_only {
+            sides.push(("library", &mut library));
+        }
+        for (side, call) in [("parsed", &mut parsed), ("whole", &mut whole), ("parse", &mut parse)] {
+            if let Some(call) = call {
+                sides.push((side, call));
+            }
+        }
+        for line in sets(&mut sides) {
+            let [first, second] = line.medians;
+            println!("{name}\t{input}\t{size}\t{}\t{first:.4}\t{second:.4}\t{}\t{}", line.side, line.samples, line.passes);
+        }
+    }
+    Ok(true)
+}
+
+/// The rows' names and inputs, a row to a line, with its sides.
+pub fn list() -> Result<bool, String> {
+    for (name, inputs) in ROWS {
+        for input in *inputs {
+            println!("{name}\t{input}\t{}", rows::sides(name).join(" "));
+        }
+    }
+    Ok(true)
+}
+
+/// One side of one row, once to warm up and then so many times inside `measured`.
+pub fn once(name: &str, input: &str, side: &str, passes: u64) -> Result<bool, String> {
+    let folder = Folder::new()?;
+    let Row { mut library, parsed, whole, parse, .. } = rows::row(name, input, &folder)?;
+    let mut call = match side {
+        "library" => &mut library as &mut dyn FnMut() -> u64,
+        "parsed" => &mut *parsed.ok_or("the row has no such side")?,
+        "whole" => &mut *whole.ok_or("the row has no such side")?,
+        "parse" => &mut *parse.ok_or("the row has no such side")?,
+        _ => return Err(format!("no side: {side}")),
+    };
+    call();
+    for _ in 0..passes {
+        measure::merged();
+        measured(&mut call);
+    }
+    Ok(true)
+}

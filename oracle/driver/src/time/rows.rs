@@ -1,0 +1,311 @@
+//! The rows: each has the library's side, the original's, and a check that both answer alike.
+
+use std::cell::RefCell;
+use std::fmt::Write;
+use std::hint::black_box;
+use std::rc::Rc;
+
+use oracle::doc01::records::{DISCREPANCY, ORDER, POSITION};
+use oracle::original;
+use rebalancer::recovery::Discrepancy;
+use rebalancer::{audit, reconcile, recovery};
+
+use super::inputs::{self, Folder, Lists, Log, FLOATS};
+use crate::entries::{self, Entry};
+use crate::library::Lent;
+
+/// Each row and its inputs. A number is a count of events, for a comparison of orders, for drift of rows.
+pub const ROWS: &[(&str, &[&str])] = &[
+    ("validate", &["reference", "random", "largest", "64", "256", "1024", "4096"]),
+    ("recover", &["reference", "random", "largest", "64", "256", "1024", "4096"]),
+    ("recover-16", &["64", "256", "1024", "4096"]),
+    ("compare", &["reference", "random", "64", "256", "1024", "4096"]),
+    ("drift-shared", &["16", "64", "256", "1024"]),
+    ("drift-distinct", &["16", "64", "256", "1024"]),
+    ("drift", &["random"]),
+    ("reply", &["reference", "random", "largest", "16", "64", "256"]),
+    ("cents", &["1024"]),
+    ("fixed", &["1024"]),
+    ("sqrt", &["1024"]),
+];
+
+/// The sides of a row. `parsed`: the original on parsed values; `whole`: with reading and parsing its file; `parse`: reading and parsing alone.
+pub fn sides(row: &str) -> &'static [&'static str] {
+    match row {
+        "validate" => &["library", "parsed", "whole"],
+        "recover" | "recover-16" | "reply" => &["library", "whole", "parse"],
+        _ => &["library", "parsed"],
+    }
+}
+
+/// One pass over a row's inputs; the sum of a number of each answer.
+pub type Side = Box<dyn FnMut() -> u64>;
+
+pub struct Row {
+    pub size: usize,
+    pub library: Side,
+    pub parsed: Option<Side>,
+    pub whole: Option<Side>,
+    pub parse: Option<Side>,
+    judged: Box<dyn Fn() -> Result<(), String>>,
+}
+
+impl Row {
+    /// The library's bytes are those of the judge, which asks the original; and the sides that are timed answer alike.
+    pub fn check(&self) -> Result<(), String> {
+        (self.judged)()
+    }
+}
+
+/// A question to the library, with the bytes that it is lent.
+struct Asked {
+    entry: &'static Entry,
+    inputs: Vec<Vec<u8>>,
+    numbers: Vec<u64>,
+    lent: Vec<Lent>,
+}
+
+impl Asked {
+    fn new(entry: &'static Entry, inputs: Vec<Vec<u8>>, numbers: Vec<u64>, rooms: &[usize]) -> Asked {
+        let lent = rooms.iter().chain([&entry.answer]).map(|room| Lent::new(*room)).collect();
+        Asked { entry, inputs, numbers, lent }
+    }
+
+    fn call(&mut self) -> u32 {
+        (self.entry.call)(black_box(&self.inputs), &self.numbers, &mut self.lent)
+    }
+
+    /// A word of the answer, from 0.
+    fn word(&self, at: usize) -> u64 {
+        let answer = self.lent[self.lent.len() - 1].bytes();
+        u64::from_le_bytes(answer[8 * at..8 * at + 8].try_into().expect("eight bytes"))
+    }
+
+    /// Every byte as the judge has it, and nothing written beside.
+    fn judged(&mut self) -> Result<(), String> {
+        let number = self.call();
+        let rooms: Vec<usize> = self.lent[..self.entry.outputs].iter().map(|l| l.bytes().len()).collect();
+        let due = (self.entry.due)(&self.inputs, &self.numbers, &rooms);
+        // Of a refusal that gives no bytes every output is zero.
+        let none = Vec::new();
+        let bytes = (0..rooms.len()).map(|i| due.outputs.get(i).unwrap_or(&none)).chain([&due.answer]);
+        let same = |(lent, due): (&Lent, &Vec<u8>)| !lent.beside() && lent.bytes().starts_with(due) && lent.bytes()[due.len()..].iter().all(|b| *b == 0);
+        if number != due.refusal || !self.lent.iter().zip(bytes).all(same) {
+            return Err(format!("{} answers {number} or bytes that are not the judge's, {} due", self.entry.name, due.refusal));
+        }
+        Ok(())
+    }
+}
+
+/// A row of questions to one entry. `read` gives the number of an answer that the original's side gives too.
+fn asking(size: usize, asked: Vec<Asked>, read: fn(u32, &Asked) -> u64, sides: [Option<fn(&Given) -> u64>; 3], given: Given) -> Row {
+    let asked = Rc::new(RefCell::new(asked));
+    let given = Rc::new(given);
+    let library = {
+        let asked = asked.clone();
+        move || asked.borrow_mut().iter_mut().map(|a| (a.call(), a)).map(|(number, a)| read(number, a)).sum()
+    };
+    let [parsed, whole, parse] = sides.map(|side| {
+        let given = given.clone();
+        side.map(|side| Box::new(move || side(black_box(&given))) as Side)
+    });
+    let judged = move || {
+        let mut sum = 0;
+        for a in asked.borrow_mut().iter_mut() {
+            a.judged()?;
+            let number = a.call();
+            sum += read(number, a);
+        }
+        for side in [sides[0], sides[1]].into_iter().flatten() {
+            if side(&given) != sum {
+                return Err("the two sides do not answer alike".into());
+            }
+        }
+        if let Given::Logs(logs) = &*given {
+            for (log, a) in logs.iter().zip(asked.borrow().iter()).filter(|(_, a)| a.entry.name == entries::REPLY.name) {
+                let length = a.word(0) as usize;
+                if a.lent[0].bytes()[..length] != *reply(log).as_bytes() {
+                    return Err("the two replies differ".into());
+                }
+            }
+        }
+        Ok(())
+    };
+    Row { size, library: Box::new(library), parsed, whole, parse, judged: Box::new(judged) }
+}
+
+/// What the original is given.
+enum Given {
+    Logs(Vec<Log>),
+    States(Vec<(Log, recovery::RecoveredState)>),
+    Lists(Vec<Lists>),
+}
+
+impl Given {
+    fn logs(&self) -> &[Log] {
+        if let Given::Logs(logs) = self { logs } else { &[] }
+    }
+}
+
+pub fn row(name: &str, input: &str, folder: &Folder) -> Result<Row, String> {
+    let number = || input.parse::<usize>().map_err(|_| format!("no input: {input}"));
+    match name {
+        "validate" => {
+            let logs = inputs::logs(input, folder, false)?;
+            let asked = logs.iter().map(|l| Asked::new(&entries::VERDICT, vec![l.bytes.clone()], vec![], &[])).collect();
+            Ok(asking(events(&logs), asked, |number, _| (number == 0) as u64, [Some(validated), Some(validated_whole), None], Given::Logs(logs)))
+        }
+        "recover" | "recover-16" => {
+            let logs = if name == "recover" { inputs::logs(input, folder, false)? } else { inputs::sixteen(number()?, folder)? };
+            let ask = |l: &Log| Asked::new(&entries::RECOVER, vec![l.bytes.clone()], vec![0], &[ORDER * l.most().0, POSITION * l.most().1]);
+            let asked = logs.iter().map(ask).collect();
+            Ok(asking(events(&logs), asked, |_, a| a.word(22) << 32 | a.word(23), [None, Some(recovered), Some(parsed)], Given::Logs(logs)))
+        }
+        "compare" => {
+            let logs = if let Ok(orders) = number() { inputs::submitted(orders, folder)? } else { inputs::logs(input, folder, false)? };
+            let (mut asked, mut states, mut size) = (Vec::new(), Vec::new(), 0);
+            for log in logs {
+                let (state, _) = recovery::reconstruct_state(&log.path).map_err(|e| format!("{e:?}"))?;
+                let records = original::recover(&log.book, 0).map_err(|e| e.0)?.state;
+                let lent = vec![records.marks.bytes(), records.order_bytes(), records.position_bytes(), log.sheet.clone()];
+                // No record of the report but for a row of the sheet, an order, a position or one of four marks.
+                let most = log.sheet.len() / 24 + 2 * state.orders.len() + state.positions.len() + 4;
+                size += state.orders.len();
+                asked.push(Asked::new(&entries::COMPARE, lent, vec![], &[DISCREPANCY * most]));
+                states.push((log, state));
+            }
+            Ok(asking(size, asked, |_, a| a.word(0), [Some(compared), None, None], Given::States(states)))
+        }
+        "drift-shared" | "drift-distinct" | "drift" => {
+            let lists = if name == "drift" { inputs::random_lists()? } else { inputs::lists(number()?, name == "drift-shared")? };
+            let ask = |l: &Lists| Asked::new(&entries::DRIFT, l.bytes.clone(), vec![l.equity as u64], &[64 * (l.held.len() + l.targets.len())]);
+            let asked = lists.iter().map(ask).collect();
+            let size = lists.iter().map(|l| l.held.len().max(l.targets.len()).max(l.prices.len())).sum();
+            Ok(asking(size, asked, |_, a| a.word(0).wrapping_add(a.word(1) >> 16), [Some(drifted), None, None], Given::Lists(lists)))
+        }
+        "reply" => {
+            let logs = inputs::logs(input, folder, true)?;
+            let ask = |l: &Log| Asked::new(&entries::REPLY, vec![l.bytes.clone(), l.sheet.clone()], vec![], &[oracle::desk::LENT]);
+            let asked = logs.iter().map(ask).collect();
+            Ok(asking(events(&logs), asked, |_, a| a.word(0), [None, Some(replied), Some(parsed)], Given::Logs(logs)))
+        }
+        "cents" => Ok(leaf(library_cents, |f| nanobook_broker::types::f64_cents_checked(f, "value").map_or(0, |n| n as u64))),
+        "fixed" => Ok(leaf(library_fixed, |f| nanobook_broker::types::f64_to_fixed_checked(f, 10_000.0, "value").map_or(0, |n| n as u64))),
+        "sqrt" => Ok(leaf(library_sqrt, |f| f.abs().sqrt().to_bits())),
+        _ => Err(format!("no row: {name}")),
+    }
+}
+
+fn events(logs: &[Log]) -> usize {
+    logs.iter().map(|l| l.events.len()).sum()
+}
+
+fn validated(given: &Given) -> u64 {
+    given.logs().iter().map(|l| audit::validate_checkpoints_from_parsed(&l.events).is_ok() as u64).sum()
+}
+
+fn validated_whole(given: &Given) -> u64 {
+    let one = |l: &Log| audit::parse_audit_events(&l.path).and_then(|events| audit::validate_checkpoints_from_parsed(&events)).is_ok();
+    given.logs().iter().map(|l| one(l) as u64).sum()
+}
+
+fn recovered(given: &Given) -> u64 {
+    let one = |l: &Log| recovery::reconstruct_state(&l.path).map_or(0, |(state, _)| (state.orders.len() as u64) << 32 | state.positions.len() as u64);
+    given.logs().iter().map(one).sum()
+}
+
+/// The file read and parsed; the events are dropped one by one, as recovery drops them.
+fn parsed(given: &Given) -> u64 {
+    let one = |l: &Log| audit::parse_audit_events(&l.path).map_or(0, |events| events.into_iter().map(|event| black_box(event).event.len() as u64).sum());
+    given.logs().iter().map(one).sum()
+}
+
+fn compared(given: &Given) -> u64 {
+    let Given::States(states) = given else { return 0 };
+    states.iter().map(|(log, state)| recovery::compare_broker_state(&log.broker, state).map_or(0, |report| report.discrepancies.len() as u64)).sum()
+}
+
+fn drifted(given: &Given) -> u64 {
+    let Given::Lists(lists) = given else { return 0 };
+    let one = |l: &Lists| {
+        let report = reconcile::reconcile(&l.held, &l.targets, &l.prices, l.equity);
+        (report.entries.len() as u64).wrapping_add(report.tracking_error_pct.to_bits() >> 16)
+    };
+    lists.iter().map(one).sum()
+}
+
+fn replied(given: &Given) -> u64 {
+    given.logs().iter().map(|l| reply(l).len() as u64).sum()
+}
+
+/// The desk's reply of the original's steps: validation of the parsed events, recovery from the file, comparison, and the text.
+fn reply(log: &Log) -> String {
+    let verdict = original::verdict_of(audit::validate_checkpoints_from_parsed(&log.events));
+    let recovered = recovery::reconstruct_state(&log.path).and_then(|(state, action)| Ok((recovery::compare_broker_state(&log.broker, &state)?, state, action)));
+    let Ok((report, state, action)) = recovered else { return String::new() };
+    let mut out = String::new();
+    let mut lines = || {
+        writeln!(out, "verdict {} {} {}", verdict.0, verdict.1, verdict.2)?;
+        writeln!(out, "action {action:?}")?;
+        writeln!(out, "last {:?} {}", state.checkpoint, state.sequence_number)?;
+        writeln!(out, "orders {}", state.orders.len())?;
+        writeln!(out, "positions {}", state.positions.len())?;
+        writeln!(out, "report {}", report.discrepancies.len())?;
+        report.discrepancies.iter().try_for_each(|d| writeln!(out, "{}", kind(d)))
+    };
+    lines().map_or(String::new(), |()| out)
+}
+
+/// Document 01's number of a discrepancy.
+fn kind(of: &Discrepancy) -> u32 {
+    match of {
+        Discrepancy::OrphanOrder { .. } => 1,
+        Discrepancy::MissingOrder { .. } => 2,
+        Discrepancy::OrderStatusMismatch { .. } => 3,
+        Discrepancy::PositionMismatch { .. } => 4,
+        Discrepancy::IncompleteIntent { .. } => 5,
+        Discrepancy::IncompletePositionsIntent { .. } => 6,
+        Discrepancy::IncompleteQuotesIntent { .. } => 7,
+        Discrepancy::IncompleteAccountSummaryIntent { .. } => 8,
+        Discrepancy::IncompleteCancelIntent { .. } => 9,
+    }
+}
+
+/// A function of one float: the sum of its answers, each of which is compared.
+fn leaf(library: fn(f64) -> u64, original: fn(f64) -> u64) -> Row {
+    let floats = inputs::floats();
+    let judged = {
+        let floats = floats.clone();
+        move || match floats.iter().find(|f| library(**f) != original(**f)) {
+            Some(f) => Err(format!("{f} is answered otherwise")),
+            None => Ok(()),
+        }
+    };
+    let over = move |of: fn(f64) -> u64, floats: Vec<f64>| Box::new(move || floats.iter().fold(0, |sum: u64, f| sum.wrapping_add(of(black_box(*f))))) as Side;
+    Row { size: FLOATS, library: over(library, floats.clone()), parsed: Some(over(original, floats)), whole: None, parse: None, judged: Box::new(judged) }
+}
+
+extern "C" {
+    fn desk_f64_to_fixed_checked(value: u64, scale: u64, answer: *mut u8, length: usize) -> u32;
+    fn desk_f64_cents_checked(value: u64, answer: *mut u8, length: usize) -> u32;
+    fn desk_sqrt(bits: u64) -> u64;
+}
+
+fn library_cents(value: f64) -> u64 {
+    let mut answer = [0; 8];
+    // Safe: the pointer is to the eight bytes that its length says.
+    unsafe { desk_f64_cents_checked(value.to_bits(), answer.as_mut_ptr(), answer.len()) };
+    u64::from_le_bytes(answer)
+}
+
+fn library_fixed(value: f64) -> u64 {
+    let mut answer = [0; 8];
+    // Safe: as above.
+    unsafe { desk_f64_to_fixed_checked(value.to_bits(), 10_000f64.to_bits(), answer.as_mut_ptr(), answer.len()) };
+    u64::from_le_bytes(answer)
+}
+
+fn library_sqrt(value: f64) -> u64 {
+    // Safe: numbers alone go in and out.
+    unsafe { desk_sqrt(value.abs().to_bits()) }
+}

@@ -1,4 +1,4 @@
-// The entries of the crates `recovery` and `reader`. Each returns the refusal's number, 0 where there is none. Marks go in a record of 176 bytes
+// The entries of the crates `recovery`, `marks` (the action) and `reader`. Each returns the refusal's number, 0 where there is none. Marks go in a record of 176 bytes
 // (crate `marks_record`); a record that is none is refused by 2.
 ghost use mathlib.Core.Path.{_≡_};
 ghost use lib.ListN.{length};

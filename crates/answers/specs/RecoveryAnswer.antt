@@ -13,7 +13,7 @@ use Rattle.marks.specs.declared.Marks.{Marks}
 use Rattle.marks_record.specs.MarksRecord.{truthNumber, marksBytes, marksOf, marksLayout}
 use Rattle.book.specs.Layout.{bookLayout}
 use Rattle.sheet.specs.Sheet.{sheetLayout}
-use Rattle.marks.specs.Action.{lentAction}
+use Rattle.marks.specs.Action.{lentAction, actionNumber}
 use Rattle.marks.specs.declared.action.Action.{Action}
 use Rattle.marks.specs.declared.action.Action.the-variants as A
 use Rattle.marks.specs.declared.action.RecoveryAction.{RecoveryAction}
@@ -21,13 +21,13 @@ use Rattle.marks.specs.declared.action.RecoveryAction.the-variants.{Restart, Re
 use Rattle.recovery.specs.declared.recover.Recovered.{Recovered}
 use Rattle.recovery.specs.declared.recover.Recovery.{Recovery}
 use Rattle.recovery.specs.declared.recover.Recovery.the-variants as R
-use Rattle.state.specs.State.{statesEqual}
+use Rattle.state.specs.State.{statesEqual, equalityNumber}
 use Rattle.state.specs.declared.Equality.{Equality}
 use Rattle.state.specs.declared.Equality.the-variants as E
-use Rattle.compare.specs.Compare.{comparison, reportOut}
+use Rattle.compare.specs.Compare.{comparison, comparisonNumber, reportOut}
 use Rattle.compare.specs.declared.Comparison.{Comparison}
 use Rattle.compare.specs.declared.Comparison.the-variants as C
-use Rattle.reader.specs.Reader.{stepped, marksAfter}
+use Rattle.reader.specs.Reader.{stepped, steppedNumber, marksAfter}
 use Rattle.reader.specs.declared.Stepped.{Stepped}
 use Rattle.reader.specs.declared.Stepped.the-variants as S
 
@@ -49,27 +49,27 @@ recoveryBytes R.NoRoom room = replicate room 0
 
 -- ---- the numbers of the other answers: the refusal, and two
 abbrev pub actionNumbers : Action → ℕ × ℕ × ℕ
-actionNumbers (A.Is a) = (0, actionCode a, 0)
-actionNumbers A.Broken = (2, 0, 0)
+actionNumbers (A.Is a) = (actionNumber (A.Is a), actionCode a, 0)
+actionNumbers A.Broken = (actionNumber A.Broken, 0, 0)
 
 abbrev pub equalityNumbers : Equality → ℕ × ℕ × ℕ
-equalityNumbers (E.Is b) = (0, truthNumber b, 0)
-equalityNumbers E.Oversize = (1, 0, 0)
-equalityNumbers E.Broken = (2, 0, 0)
+equalityNumbers (E.Is b) = (equalityNumber (E.Is b), truthNumber b, 0)
+equalityNumbers E.Oversize = (equalityNumber E.Oversize, 0, 0)
+equalityNumbers E.Broken = (equalityNumber E.Broken, 0, 0)
 
 -- how many discrepancies, and whether that is critical
 abbrev pub comparisonNumbers : Comparison → ℕ × ℕ × ℕ
-comparisonNumbers (C.Done r) = (0, r .count, truthNumber (r .critical))
-comparisonNumbers C.Oversize = (1, 0, 0)
-comparisonNumbers C.Broken = (2, 0, 0)
-comparisonNumbers C.NoRoom = (3, 0, 0)
+comparisonNumbers (C.Done r) = (comparisonNumber (C.Done r), r .count, truthNumber (r .critical))
+comparisonNumbers C.Oversize = (comparisonNumber C.Oversize, 0, 0)
+comparisonNumbers C.Broken = (comparisonNumber C.Broken, 0, 0)
+comparisonNumbers C.NoRoom = (comparisonNumber C.NoRoom, 0, 0)
 
 -- 1 where an event was stepped
 abbrev pub stepNumbers : Stepped → ℕ × ℕ × ℕ
-stepNumbers S.Is = (0, 1, 0)
-stepNumbers S.Past = (0, 0, 0)
-stepNumbers S.Oversize = (1, 0, 0)
-stepNumbers S.Broken = (2, 0, 0)
+stepNumbers S.Is = (steppedNumber S.Is, 1, 0)
+stepNumbers S.Past = (steppedNumber S.Past, 0, 0)
+stepNumbers S.Oversize = (steppedNumber S.Oversize, 0, 0)
+stepNumbers S.Broken = (steppedNumber S.Broken, 0, 0)
 
 -- ---- with lent marks: a record of marks that is none is refused by 2, after 1 of what is lent beside it
 abbrev pub marksFirst : Layout → Layout → ℕ × ℕ × ℕ → ℕ × ℕ × ℕ

@@ -1,8 +1,9 @@
 /* The recovery desk as a C library: link libexports.a (`rt staticlib exports`).
  *
- * Every slice is a pointer and a length in bytes; the pointer is never null, also where the length is 0. Outputs are lent by the caller and may hold
- * anything before the call; every byte of them is decided by it. All numbers in bytes are little-endian. No call keeps a pointer, allocates,
- * prints or fails to return, whatever the bytes.
+ * Every slice is a pointer and a length in bytes. A null pointer has the length 0, an empty slice: an answer that is null is too short and is refused.
+ * DESK_LENT(p, n) writes both arguments, with the length 0 where p is null. Outputs are lent by the caller and may hold anything before the
+ * call; every byte of them is decided by it. All numbers in bytes are little-endian. No call keeps a pointer, allocates, prints or fails to
+ * return, whatever the bytes.
  *
  * A function that returns `uint32_t` returns the number of its refusal, 0 where there is none:
  *    1  a book over 1,048,576 bytes, events or rows over 4,096; a list of a sheet or of drift over 1,024
@@ -23,6 +24,8 @@
 #ifdef __cplusplus
 extern "C" {
 #endif
+
+#define DESK_LENT(p, n) (p), ((p) == NULL ? (size_t)0 : (size_t)(n))
 
 enum { DESK_MARKS = 176, DESK_ORDER = 64, DESK_POSITION = 32, DESK_DISCREPANCY = 48, DESK_DRIFT_ENTRY = 64 };
 enum { DESK_RECOVERED = 200, DESK_RECONCILED = 24, DESK_ANSWER = 16 };

@@ -1,5 +1,5 @@
-//! The library's entries through its C boundary: slices go as a pointer and a length. Outputs are lent as bytes that hold garbage, with garbage on
-//! both sides.
+//! The library's entries through its C boundary: slices go as a pointer and a length, an empty one as a null pointer. Outputs are lent as bytes that hold
+//! garbage, with garbage on both sides.
 
 const GARBAGE: u8 = 0xa5;
 const BESIDE: usize = 32;
@@ -32,9 +32,17 @@ impl Lent {
     }
 }
 
+fn read(bytes: &[u8]) -> *const u8 {
+    if bytes.is_empty() { std::ptr::null() } else { bytes.as_ptr() }
+}
+
+fn written(lent: &mut Lent) -> *mut u8 {
+    if lent.room == 0 { std::ptr::null_mut() } else { lent.bytes[BESIDE..].as_mut_ptr() }
+}
+
 macro_rules! entry {
     ($name:ident ( $($input:ident),* ; $($number:ident : $of:ty),* ; $($output:ident),* )) => {
-        // Safe: each pointer is to as many bytes as its length says, which nothing else holds during the call.
+        // Safe: each pointer is to as many bytes as its length says, which nothing else holds during the call; null where there are none.
         pub fn $name(inputs: &[Vec<u8>], numbers: &[u64], outputs: &mut [Lent]) -> u32 {
             extern "C" {
                 fn $name($($input: *const u8, _: usize,)* $($number: $of,)* $($output: *mut u8, _: usize),*) -> u32;
@@ -44,9 +52,9 @@ macro_rules! entry {
             let [$($output),*] = outputs else { panic!("outputs of {}", stringify!($name)) };
             unsafe {
                 $name(
-                    $($input.as_ptr(), $input.len(),)*
+                    $(read($input), $input.len(),)*
                     $($number as $of,)*
-                    $($output.bytes[BESIDE..].as_mut_ptr(), $output.room),*
+                    $(written($output), $output.room),*
                 )
             }
         }

@@ -4,7 +4,7 @@ mod time;
 
 use std::process::ExitCode;
 
-use driver::{compare, library};
+use driver::compare;
 
 const USAGE: &str = "usage: compare KIND SEED COUNT         compares COUNT cases of a kind; stops at the first disagreement
        compare faults KIND SEED COUNT  shows that wrong answers would be seen

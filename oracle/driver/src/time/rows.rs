@@ -11,8 +11,8 @@ use rebalancer::recovery::Discrepancy;
 use rebalancer::{audit, reconcile, recovery};
 
 use super::inputs::{self, Folder, Lists, Log, FLOATS};
-use crate::entries::{self, Entry};
-use crate::library::Lent;
+use driver::entries::{self, Entry};
+use driver::library::Lent;
 
 /// Each row and its inputs. A number is a count of events, for a comparison of orders, for drift of rows.
 pub const ROWS: &[(&str, &[&str])] = &[

@@ -7,12 +7,12 @@ use mathlib.Core.List.{List, [], _∷_, _++_, map, flatMap}
 use mathlib.Core.Bool.{Bool, true, false, _&&_}
 use mathlib.Core.Option.{Option, none, some}
 use lib.IntN.{ℤ, pos, negℤ}
+use lib.Ieee.{Float, binary64, round}
 use lib.ListN.{set, replicate}
 use lib.Signed.{leZ}
 use Rattle.wire.specs.Le.{le, bytesOf}
 use Rattle.symbol.specs.Symbol.{symbolOf, wideFieldBytes}
 use Rattle.types.specs.Fixed.{toFixed, toCents, fixedRefusal, fixedValue}
-use Rattle.types.specs.Reference.{decimal}
 use Rattle.types.specs.declared.fixed.Fixed.{Fixed}
 use Rattle.cell.specs.declared.AsI64.{AsI64}
 use Rattle.cell.specs.declared.AsI64.the-variants as I64
@@ -58,6 +58,10 @@ allDue (r ∷ rs) = sameNumbers (r .given) (r .due) && allDue rs
 
 abbrev pub number : Row → ℕ
 number r = r .m
+
+-- ---- the f64 that a decimal stands for: digits / 10 ^ places, negative where s is true
+abbrev pub decimal : Bool → ℕ → ℕ → Float
+decimal s digits places = round binary64 s digits (10 ^ places)
 
 -- ---- a conversion: the refusal's number, and the value
 abbrev pub converted : Fixed → List ℤ

@@ -23,12 +23,14 @@ use Rattle.checkpoint.specs.Checkpoint.{eventName}
 use Rattle.checkpoint.specs.declared.Checkpoint.the-variants.{OrderSubmitted, OrderFailed}
 use Rattle.effects.specs.Event.{Event, eventOf, eventsOf}
 use Rattle.join.specs.Join.{tooLarge}
-use Rattle.intents.specs.Intents.{entryName, reasonText, entryText, entryBytes, entryTable, entryTexts, addendum, timeLayout}
+use Rattle.intents.specs.Intents.{entryName, reasonText, entryText, entryBytes, entryTable, entryTexts, addendum}
+use Rattle.book.specs.Time.{timeLayout}
 use Rattle.intents.specs.declared.Chosen.{Chosen}
 use Rattle.intents.specs.declared.Chosen.the-variants as C
 use Rattle.rounds.proofs.Entries.{Texted, entryEvent, entryEvents}
 use Rattle.rounds.proofs.BookOf.{small, Reads, length-book, book-reads, book-sound}
-use Rattle.rounds.proofs.MovedTables.{bytes-append, bytes-take, bytes-number, all, every-all}
+use Rattle.symbol.proofs.Text.{bytes-take}
+use Rattle.rounds.proofs.MovedTables.{bytes-append, bytes-number, all, every-all}
 use Rattle.rounds.proofs.JoinLayout.{bytes-book}
 use Rattle.rounds.proofs.EntryBytes.{IdFits, entry-read, entry-passes, length-entry, bytes-entry}
 

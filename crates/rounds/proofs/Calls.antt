@@ -13,6 +13,7 @@ use Rattle.wire.specs.Table.{encoded, padded}
 use Rattle.wire.specs.Layout.{bothOf}
 use Rattle.wire.specs.declared.layout.Layout.{Layout}
 use Rattle.wire.specs.declared.layout.Layout.the-variants as L
+use Rattle.wire.proofs.Layouts.{both-sound}
 use Rattle.wire.proofs.Records.{Each, length-encoded}
 use Rattle.wire.proofs.Records as Of
 use Rattle.symbol.specs.declared.Symbol.{Symbol}
@@ -25,7 +26,8 @@ use Rattle.records.proofs.Orders.{order-size, orders-in, orders-sound}
 use Rattle.marks.specs.declared.Marks.{Marks}
 use Rattle.effects.specs.Event.{eventsOf}
 use Rattle.recovery.specs.Action.{actionOf}
-use Rattle.recovery.specs.Recover.{State, firstState, roomy, stateOf, timeLayout, doneIf, refusedOr, recovery, bytesIf, ordersOut}
+use Rattle.recovery.specs.Recover.{State, firstState, roomy, stateOf, doneIf, refusedOr, recovery, bytesIf, ordersOut}
+use Rattle.book.specs.Time.{timeLayout}
 use Rattle.recovery.specs.declared.recover.Recovered.{Recovered}
 use Rattle.recovery.specs.declared.recover.Recovery.{Recovery}
 use Rattle.recovery.specs.declared.recover.Recovery.the-variants as Rec
@@ -75,13 +77,6 @@ unfolding roundOf
 round-refused r log h = recovery-refused r log (recovery log (r .now) (r .orders) (r .positions)) h
 
 -- ---- layouts
-pub both-sound : (a b : Layout) → bothOf a b ≡ L.Sound → (a ≡ L.Sound) × (b ≡ L.Sound)
-both-sound L.Sound b h = (refl, h)
-both-sound L.Oversize b h = let z : _≡_ {A = ℕ} 0 1 = cc in absurd (omega arith)
-both-sound L.Broken L.Sound h = let z : _≡_ {A = ℕ} 0 1 = cc in absurd (omega arith)
-both-sound L.Broken L.Oversize h = let z : _≡_ {A = ℕ} 0 1 = cc in absurd (omega arith)
-both-sound L.Broken L.Broken h = let z : _≡_ {A = ℕ} 0 1 = cc in absurd (omega arith)
-
 -- what is read from the front of a buffer
 pub take-padded : (n : ℕ) (s : List ℕ) → take (length s) (padded n s) ≡ s
 unfolding padded

@@ -21,7 +21,7 @@ use Rattle.wire.specs.Layout.{soundIf}
 use Rattle.wire.specs.declared.layout.Layout.the-variants as L
 use Rattle.wire.proofs.Written.{Bytes, le-bytesOf}
 use Rattle.symbol.specs.declared.Symbol.{Symbol}
-use Rattle.symbol.proofs.Text.{and-right}
+use Rattle.wire.proofs.Bools.{and-right}
 use Rattle.cell.specs.declared.AsStr.the-variants as Str
 use Rattle.cell.specs.declared.AsI64.the-variants as I64
 use Rattle.cell.specs.declared.AsF64.the-variants as F64
@@ -33,7 +33,8 @@ use Rattle.book.specs.Layout.{latest, payloadOk, cellOk, windowOk, eventOk}
 use Rattle.checkpoint.specs.Checkpoint.{eventName, checkpoints, namedAmong, named}
 use Rattle.checkpoint.specs.declared.Named.the-variants as K
 use Rattle.effects.specs.Event.{bytesOfText, eventOf}
-use Rattle.intents.specs.Intents.{symbolText, entryName, reasonText, entryText, cellBytes, noCell, idCellBytes, reasonCellBytes, entryBytes, timeLayout}
+use Rattle.intents.specs.Intents.{symbolText, entryName, reasonText, entryText, cellBytes, noCell, idCellBytes, reasonCellBytes, entryBytes}
+use Rattle.book.specs.Time.{timeLayout}
 use Rattle.intents.specs.declared.Chosen.{Chosen}
 use Rattle.intents.specs.declared.Chosen.the-variants as C
 use Rattle.rounds.proofs.Entries.{Texted, entryCheckpoint, entryId, entryReason, entryEvent}

@@ -29,7 +29,8 @@ use Rattle.cell.specs.declared.Cell.the-variants.{None, Int, Big, Float, Text, 
 use Rattle.book.specs.Layout.{cellOk, rowCellOk, rowOk, eventOk, payloadOk, eventCount, rowCount, textLength, bookLayout}
 use Rattle.book.specs.Event.{eventsIn, rowsIn, textOf, nameIn}
 use Rattle.effects.specs.Event.{Event, Row, bytesOfText, rowOf, rowsOf, eventOf, eventsOf}
-use Rattle.recovery.proofs.BookCounts.{every-at, event-cell}
+use Rattle.wire.proofs.Table.{every-at}
+use Rattle.book.proofs.Sound.{ArrayIn, cell-array, event-cell}
 use Rattle.join.specs.Join.{each, movedCell, movedRow, movedEvent, joined, joinedLength, tooLarge}
 use Rattle.rounds.proofs.BookOf.{small}
 use Rattle.rounds.proofs.MovedTables.{every-from, every-take, records-near, records-take, records-same, records-moved, drop-each, each-at}
@@ -121,32 +122,12 @@ bytes-str : (t u : List ℕ) (d : ℕ) (a : AsStr) → length t ≡ d → bytesO
 bytes-str t u d (Str.Is r) e = ap some (text-behind t u d (r .first) (r .len) e)
 bytes-str t u d Str.Nothing e = refl
 
--- ---- a list lies within the rows
-abbrev Within : ℕ → AsArray → Type 0
-Within n (A.Is first count) = first + count ≤ n
-Within n A.Nothing = Unit
-
-array-in : (rows text k p : ℕ) → payloadOk rows text k p ≡ true → Within rows (asArray (cellBy k p))
-unfolding payloadOk cellBy
-array-in rows text zero p h = tt
-array-in rows text (suc zero) p h = tt
-array-in rows text (suc (suc zero)) p h = tt
-array-in rows text (suc (suc (suc zero))) p h = tt
-array-in rows text (suc (suc (suc (suc zero)))) p h = tt
-array-in rows text (suc (suc (suc (suc (suc zero))))) p h = tt
-array-in rows text (suc (suc (suc (suc (suc (suc zero)))))) p h = leb-true (p % 2 ^ 32 + p / 2 ^ 32) rows h
-array-in rows text (suc (suc (suc (suc (suc (suc (suc k))))))) p h = tt
-
-cell-array : (rows text : ℕ) (s : List ℕ) → cellOk rows text s ≡ true → Within rows (asArray (cellOf s))
-unfolding cellOk cellOf
-cell-array rows text s h = array-in rows text (le 8 s) (le 8 (drop 8 s)) h
-
 -- ---- rows
 row-of-near : (text s t : List ℕ) → 64 ≤ length s → rowOf text (s ++ t) ≡ rowOf text s
 row-of-near text s t h =
     rw (cell-near 0 s t (omega arith), cell-near 16 s t (omega arith), cell-near 32 s t (omega arith), cell-near 48 s t (omega arith))
 
-row-cell-at : (rows text : ℕ) (s : List ℕ) (i : ℕ) → rowOk rows text s ≡ true → i < 4 → cellOk rows text (drop (16 * i) s) ≡ true
+pub row-cell-at : (rows text : ℕ) (s : List ℕ) (i : ℕ) → rowOk rows text s ≡ true → i < 4 → cellOk rows text (drop (16 * i) s) ≡ true
 unfolding rowOk
 row-cell-at rows text s i ok h = row-cell rows text (drop (16 * i) s) (every-at (rowCellOk rows text) 16 4 s i ok h)
 
@@ -181,7 +162,7 @@ module _ (rows d : ℕ) (t u : List ℕ) (e : length t ≡ d) (r : rows < 2 ^ 32
       )
 
 -- ---- lists of rows
-rows-kept : (n : ℕ) (rs x y t u : List ℕ) (a : AsArray) → length rs ≡ 64 * n → every (rowOk n (length t)) 64 n (rs ++ y) ≡ true → Within n a
+rows-kept : (n : ℕ) (rs x y t u : List ℕ) (a : AsArray) → length rs ≡ 64 * n → every (rowOk n (length t)) 64 n (rs ++ y) ≡ true → ArrayIn n a
     → rowsOf (rs ++ x) (t ++ u) a ≡ rowsOf (rs ++ y) t a
 rows-kept n rs x y t u A.Nothing size ok w = refl
 rows-kept n rs x y t u (A.Is first count) size ok w =
@@ -197,7 +178,7 @@ rows-kept n rs x y t u (A.Is first count) size ok w =
     (every-from (rowOk n (length t)) 64 first count n (rs ++ y) w ok))
 
 rows-moved : (n m d : ℕ) (ra rb x t u : List ℕ) (a : AsArray) → length ra ≡ 64 * n → length t ≡ d → m < 2 ^ 32 → length u + d < 2 ^ 32 → Bytes rb
-    → every (rowOk m (length u)) 64 m rb ≡ true → Within m a
+    → every (rowOk m (length u)) 64 m rb ≡ true → ArrayIn m a
     → rowsOf (ra ++ (each (movedRow d) 64 m rb ++ x)) (t ++ u) (movedArray n a) ≡ movedListRefs d (rowsOf rb u a)
 rows-moved n m d ra rb x t u A.Nothing size e r l b ok w = refl
 rows-moved n m d ra rb x t u (A.Is first count) size e r l b ok w =
@@ -232,7 +213,7 @@ event-of-near rows text s t h =
       cell-near 192 s t (omega arith),
     )
 
-event-cell-at : (rows text : ℕ) (s : List ℕ) (i : ℕ) → eventOk rows text s ≡ true → i < 13 → cellOk rows text (drop (32 + 16 * i) s) ≡ true
+pub event-cell-at : (rows text : ℕ) (s : List ℕ) (i : ℕ) → eventOk rows text s ≡ true → i < 13 → cellOk rows text (drop (32 + 16 * i) s) ≡ true
 event-cell-at rows text s i ok h = rw (← drop-drop (16 * i) 32 s) (event-cell rows text s i ok h)
 
 -- an event of A over more rows and more text
@@ -240,7 +221,7 @@ event-kept : (n : ℕ) (rs x y t u : List ℕ) → length rs ≡ 64 * n → ever
     → (s : List ℕ) → eventOk n (length t) s ≡ true → eventOf (rs ++ x) (t ++ u) s ≡ eventOf (rs ++ y) t s
 event-kept n rs x y t u size rowsOk s ok =
     let name : nameIn (t ++ u) s ≡ nameIn t s = text-kept t u (record { first = le 4 s; len = le 4 (drop 4 s) }) (passed n (length t) s ok .name) in
-    let array : (i : ℕ) → i < 13 → Within n (asArray (cellOf (drop (32 + 16 * i) s))) =
+    let array : (i : ℕ) → i < 13 → ArrayIn n (asArray (cellOf (drop (32 + 16 * i) s))) =
     λ (i : ℕ) (h : i < 13). cell-array n (length t) (drop (32 + 16 * i) s) (event-cell-at n (length t) s i ok h) in
     rw (
       name,

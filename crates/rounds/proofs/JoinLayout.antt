@@ -5,21 +5,20 @@ use mathlib.Core.Path.{_≡_, sym, ap, _∙_}
 use mathlib.Core.List.{List, _++_, append-assoc}
 use mathlib.Core.Bool.{true, false, _&&_}
 use native.Mathlib.Omega.{arith}
-use lib.Dec.{eqb}
-use lib.ListN.{length, take, drop, length-append, length-drop, take-append-drop}
+use lib.ListN.{length, take, length-append, length-drop, take-append-drop}
 use lib.Seq.{drop-drop, length-take-le}
-use borrow.Author.Tests.{eqb-true}
-use Rattle.wire.specs.Le.{le, bytesOf}
+use Rattle.wire.specs.Le.{bytesOf}
 use Rattle.wire.specs.Table.{every}
 use Rattle.wire.specs.declared.layout.Layout.the-variants as L
 use Rattle.wire.proofs.Written.{Bytes}
-use Rattle.symbol.proofs.Text.{bytes-drop, and-left, and-right}
-use Rattle.book.specs.Layout.{rowOk, eventOk, eventCount, rowCount, textLength, offsetsOk, tablesOk, partsOk, bookLayout}
+use Rattle.wire.proofs.Bools.{and-left, and-right}
+use Rattle.symbol.proofs.Text.{bytes-take, bytes-drop}
+use Rattle.book.specs.Layout.{rowOk, eventOk, eventCount, rowCount, textLength, tablesOk, partsOk, bookLayout}
 use Rattle.book.specs.Event.{eventsIn, rowsIn, textOf}
-use Rattle.recovery.proofs.BookCounts.{sound-counts}
+use Rattle.book.proofs.Sound.{sound-counts, laid-size}
 use Rattle.join.specs.Join.{bookOf, each, movedRow, movedEvent, joined, joinedLength, tooLarge}
 use Rattle.rounds.proofs.BookOf.{small, Reads, length-book, book-reads, book-sound}
-use Rattle.rounds.proofs.MovedTables.{bytes-append, bytes-take, bytes-number, every-near, every-append, every-take, every-more, every-moved, length-each, bytes-each}
+use Rattle.rounds.proofs.MovedTables.{bytes-append, bytes-number, every-near, every-append, every-take, every-more, every-moved, length-each, bytes-each}
 use Rattle.rounds.proofs.MovedEvents.{row-near, row-more, length-row, bytes-row, row-ok-moved, event-near, event-more, length-event, bytes-event, event-ok-moved}
 
 -- ---- a sound book's tables
@@ -38,15 +37,6 @@ pub record Laid (s : List ℕ) : Type 0 where
   pub eventSplit : eventsIn s ≡ eventBytes s ++ rowsIn s
   pub rowSplit : rowsIn s ≡ rowBytes s ++ textOf s
 
-pub book-size : (s : List ℕ) → tablesOk s ≡ true → length s ≡ 24 + 240 * eventCount s + 64 * rowCount s + textLength s
-unfolding tablesOk offsetsOk
-book-size s h =
-    eqb-true (length s) (24 + 240 * eventCount s + 64 * rowCount s + textLength s)
-    (and-right
-    (eqb (le 4 (drop 4 s)) 24 && eqb (le 4 (drop 12 s)) (24 + 240 * eventCount s) && eqb (le 4 (drop 20 s)) (24 + 240 * eventCount s + 64 * rowCount s))
-    (eqb (length s) (24 + 240 * eventCount s + 64 * rowCount s + textLength s))
-    h)
-
 laid-parts : (s : List ℕ) → partsOk s ≡ true → Laid s
 unfolding partsOk
 laid-parts s h =
@@ -55,7 +45,7 @@ laid-parts s h =
     let events = every (eventOk m (textLength s)) 240 n (eventsIn s) in
     let rows = every (rowOk m (textLength s)) 64 m (rowsIn s) in
     let te = and-left (tablesOk s && events) rows h in
-    let size = book-size s (and-left (tablesOk s) events te) in
+    let size = laid-size s (and-left (tablesOk s) events te) in
     let e : 240 * n ≤ length (eventsIn s) = rw length-drop (omega arith) in
     let r : 64 * m ≤ length (rowsIn s) = rw length-drop (omega arith) in
     record {
@@ -115,9 +105,6 @@ module _ (a b : List ℕ) (k : ℕ) (la : Laid a) (lb : Laid b) where
 
     pub joined-row-count : rowCount (joined a b k) ≡ rowCount a + rowCount b
     joined-row-count = joined-reads .rowsCount
-
-    pub joined-text-length : textLength (joined a b k) ≡ textLength a + textLength b
-    joined-text-length = joined-reads .textSize ∙ text-size
 
     pub joined-text : textOf (joined a b k) ≡ textOf a ++ textOf b
     joined-text = joined-reads .wholeText

@@ -7,6 +7,7 @@ use mathlib.Core.Bool.{Bool, true, false, false≢true}
 use native.Mathlib.Omega.{arith}
 use lib.IntN.{ℤ}
 use lib.ListN.{length, take, replicate, length-append}
+use Rattle.wire.proofs.Bools.{or-left, or-right}
 use Rattle.wire.proofs.Records.{Each}
 use Rattle.wire.proofs.Records as Of
 use Rattle.symbol.specs.Symbol.{sameSymbol}
@@ -19,7 +20,7 @@ use Rattle.intents.specs.Intents.{symbolText, entryName, entryText, entryTexts,
 use Rattle.intents.specs.declared.Chosen.{Chosen}
 use Rattle.rounds.specs.Demand3.{hasSymbol, NoRepeat, isEntry, Small}
 use Rattle.rounds.proofs.Entries.{Texted, entryReason, entryEvent}
-use Rattle.rounds.proofs.Settling.{by-bool, or-left, or-right, settle, Reads, settle-shut, settle-symbol, reads-more, same-sym, same-refl, same-is, text-is, entry-orders, Written, end, more, ordersAfter, skipped, avoid-settled, Among, stop, pass, pick, among-avoid}
+use Rattle.rounds.proofs.Settling.{by-bool, settle, Reads, settle-shut, settle-symbol, reads-more, same-sym, same-refl, same-is, text-is, entry-orders, Written, end, more, ordersAfter, skipped, avoid-settled, Among, stop, pass, pick, among-avoid}
 
 pub data Prog (c : Chosen) (text : List ℕ) : List Order → List Order → Type 0 where
   done : Prog c text [] []

@@ -15,7 +15,7 @@ use Rattle.wire.specs.Table.{every, records, encoded, padded}
 use Rattle.wire.specs.declared.layout.Layout.the-variants as L
 use Rattle.wire.proofs.Written.{Bytes, none, more}
 use Rattle.symbol.specs.Symbol.{allOf, parses, parsed, fieldOk, wideFieldOk}
-use Rattle.symbol.proofs.Text.{and-left, and-right}
+use Rattle.wire.proofs.Bools.{and-left, and-right}
 use Rattle.cell.specs.Cell.{cellBy, cellOf}
 use Rattle.book.specs.Layout.{payloadOk, cellOk, rowCellOk, rowOk, windowOk, headOk, eventHeadOk, eventOk, tablesOk, partsOk, bookLayout}
 use Rattle.book.specs.Layout as Book

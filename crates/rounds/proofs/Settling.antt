@@ -3,7 +3,7 @@
 use Prim.Native.Nat.{ℕ, zero, suc, _+_, _^_, _≤_, _<_}
 use mathlib.Core.Path.{_≡_, refl, sym, ap, _∙_, subst}
 use mathlib.Core.List.{List, [], _∷_, _++_}
-use mathlib.Core.Bool.{Bool, true, false, cond, not, _&&_, _||_, true≢false}
+use mathlib.Core.Bool.{Bool, true, false, cond, not, _&&_}
 use mathlib.Core.Option.{none, some}
 use native.Mathlib.Omega.{arith}
 use lib.Dec.{eqb}
@@ -18,7 +18,7 @@ use Rattle.wire.proofs.Records.{Each}
 use Rattle.wire.proofs.Records as Of
 use Rattle.symbol.specs.Symbol.{sameSymbol, symbolIs}
 use Rattle.symbol.specs.declared.Symbol.{Symbol}
-use Rattle.symbol.proofs.Text.{and-left, and-right, and-false}
+use Rattle.wire.proofs.Bools.{and-left, and-right, and-false, or-left, or-right}
 use Rattle.types.specs.declared.order.OrderId.{OrderId}
 use Rattle.cell.specs.Cell.{cellBy, cellOf, asI64, textIn}
 use Rattle.cell.specs.declared.AsStr.{AsStr}
@@ -50,14 +50,6 @@ abbrev pub Reads : Chosen → List ℕ → AsStr → Type 0
 Reads (C.Is id) text a = Unit
 Reads C.Nothing text Str.Nothing = ⊥
 Reads C.Nothing text (Str.Is r) = (r .first + r .len ≤ length text) × (textIn text r ≡ reasonText C.Nothing)
-
-pub or-left : (a b : Bool) → (a || b) ≡ false → a ≡ false
-or-left true b h = h
-or-left false b h = refl
-
-pub or-right : (a b : Bool) → (a || b) ≡ false → b ≡ false
-or-right true b h = absurd (true≢false h)
-or-right false b h = h
 
 and-not : (a b : Bool) → (a && b && false) ≡ false
 and-not a b = and-false (a && b)

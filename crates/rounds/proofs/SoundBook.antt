@@ -1,13 +1,12 @@
 -- A sound book of bytes: the lengths of its tables, what its cells give, and that every order recovered from it is good. About no function.
 -- Assumes nothing.
-use Prim.Native.Nat.{ℕ, zero, suc, _+_, _-_, _*_, _/_, _%_, _^_, _≤_, _<_}
+use Prim.Native.Nat.{ℕ, zero, suc, _+_, _-_, _*_, _/_, _%_, _^_}
 use mathlib.Core.Path.{_≡_}
 use mathlib.Core.List.{List, []}
-use mathlib.Core.Bool.{true, _&&_}
+use mathlib.Core.Bool.{true}
 use native.Mathlib.Omega.{arith}
 use lib.IntN.{pos}
 use lib.ListN.{length, drop}
-use lib.Seq.{drop-drop}
 use borrow.Author.Tests.{leb-true}
 use Rattle.wire.specs.Le.{le}
 use Rattle.wire.specs.Table.{every, records}
@@ -15,31 +14,28 @@ use Rattle.wire.specs.declared.layout.Layout.the-variants as L
 use Rattle.wire.proofs.Written.{Bytes}
 use Rattle.wire.proofs.Records.{Each, length-records}
 use Rattle.wire.proofs.Records as Of
-use Rattle.symbol.proofs.Text.{and-left, and-right, bytes-drop}
+use Rattle.wire.proofs.Bools.{and-left, and-right}
+use Rattle.symbol.proofs.Text.{bytes-take, bytes-drop}
 use Rattle.cell.specs.Cell.{cellBy, cellOf, asStr, asArray}
 use Rattle.cell.specs.declared.AsStr.{AsStr}
 use Rattle.cell.specs.declared.AsStr.the-variants as Str
 use Rattle.cell.specs.declared.AsArray.{AsArray}
 use Rattle.cell.specs.declared.AsArray.the-variants as A
-use Rattle.book.specs.Layout.{payloadOk, cellOk, rowCellOk, rowOk, eventOk, eventCount, rowCount, textLength, tablesOk, partsOk, bookLayout}
+use Rattle.book.specs.Layout.{payloadOk, cellOk, rowOk, eventOk, eventCount, rowCount, textLength, bookLayout}
 use Rattle.book.specs.Event.{eventsIn, rowsIn, textOf, symbolCell, ordersCell}
 use Rattle.effects.specs.Event.{bytesOfText, rowOf, rowsOf, eventOf, eventsOf}
 use Rattle.effects.proofs.CellFits.{str-fits, whole-fits}
 use Rattle.recovery.specs.Recover.{firstState}
-use Rattle.recovery.proofs.BookCounts.{every-at, event-cell, sound-counts}
+use Rattle.book.proofs.Sound.{ArrayIn, cell-array}
 use Rattle.rounds.specs.Demand3.{recovered}
-use Rattle.rounds.proofs.JoinLayout.{laid, book-size}
-use Rattle.rounds.proofs.MovedCells.{row-cell}
-use Rattle.rounds.proofs.MovedTables.{bytes-take, every-from}
+use Rattle.rounds.proofs.JoinEvents.{row-cell-at, event-cell-at}
+use Rattle.rounds.proofs.JoinLayout.{laid}
+use Rattle.rounds.proofs.MovedTables.{every-from}
 use Rattle.rounds.proofs.Ending.{StrIn}
 use Rattle.rounds.proofs.Stepping.{steps-orders}
 use Rattle.rounds.proofs.Spelling.{Good, GoodStr, TextBytes, GoodRow, GoodRows, GoodEvent, after-good}
 
--- ---- a cell's text and list lie within the book's
-abbrev ArrayIn : ℕ → AsArray → Type 0
-ArrayIn n (A.Is first count) = first + count ≤ n
-ArrayIn n A.Nothing = Unit
-
+-- ---- a cell's text lies within the book's
 str-payload : (rows text k p : ℕ) → payloadOk rows text k p ≡ true → StrIn text (asStr (cellBy k p))
 unfolding payloadOk cellBy
 str-payload rows text zero p e = tt
@@ -51,24 +47,9 @@ str-payload rows text (suc (suc (suc (suc (suc zero))))) p e = tt
 str-payload rows text (suc (suc (suc (suc (suc (suc zero)))))) p e = tt
 str-payload rows text (suc (suc (suc (suc (suc (suc (suc k))))))) p e = tt
 
-array-payload : (rows text k p : ℕ) → payloadOk rows text k p ≡ true → ArrayIn rows (asArray (cellBy k p))
-unfolding payloadOk cellBy
-array-payload rows text zero p e = tt
-array-payload rows text (suc zero) p e = tt
-array-payload rows text (suc (suc zero)) p e = tt
-array-payload rows text (suc (suc (suc zero))) p e = tt
-array-payload rows text (suc (suc (suc (suc zero)))) p e = tt
-array-payload rows text (suc (suc (suc (suc (suc zero))))) p e = tt
-array-payload rows text (suc (suc (suc (suc (suc (suc zero)))))) p e = leb-true (p % 2 ^ 32 + p / 2 ^ 32) rows e
-array-payload rows text (suc (suc (suc (suc (suc (suc (suc k))))))) p e = tt
-
 str-within : (rows text : ℕ) (s : List ℕ) → cellOk rows text s ≡ true → StrIn text (asStr (cellOf s))
 unfolding cellOk cellOf
 str-within rows text s e = str-payload rows text (le 8 s) (le 8 (drop 8 s)) e
-
-array-within : (rows text : ℕ) (s : List ℕ) → cellOk rows text s ≡ true → ArrayIn rows (asArray (cellOf s))
-unfolding cellOk cellOf
-array-within rows text s e = array-payload rows text (le 8 s) (le 8 (drop 8 s)) e
 
 str-good : (rows text : ℕ) (s : List ℕ) → Bytes s → cellOk rows text s ≡ true → GoodStr text (asStr (cellOf s))
 str-good rows text s b e = record { fits = str-fits s b; within = str-within rows text s e }
@@ -79,10 +60,6 @@ text-good text (Str.Is r) b = bytes-take (r .len) (drop (r .first) text) (bytes-
 text-good text Str.Nothing b = tt
 
 -- ---- rows
-row-cell-at : (rows text : ℕ) (r : List ℕ) (i : ℕ) → rowOk rows text r ≡ true → i < 4 → cellOk rows text (drop (16 * i) r) ≡ true
-unfolding rowOk
-row-cell-at rows text r i h l = row-cell rows text (drop (16 * i) r) (every-at (rowCellOk rows text) 16 4 r i h l)
-
 row-good : (rows : ℕ) (text r : List ℕ) (n : ℕ) → Bytes text → Bytes r → rowOk rows n r ≡ true → GoodRow n (rowOf text r)
 row-good rows text r n bt br h =
     record {
@@ -106,19 +83,16 @@ array-good rows table text n bt br h (A.Is first count) q =
     rows-good rows text n bt count (drop (64 * first) table) (bytes-drop (64 * first) table br) (every-from (rowOk rows n) 64 first count rows table q h)
 
 -- ---- events
-cell-at : (rows text : ℕ) (e : List ℕ) (i : ℕ) → eventOk rows text e ≡ true → i < 13 → cellOk rows text (drop (32 + 16 * i) e) ≡ true
-cell-at rows text e i h l = rw (← drop-drop (16 * i) 32 e) (event-cell rows text e i h l)
-
 module _ (rows : ℕ) (table text : List ℕ) (n : ℕ) (bt : Bytes text) (br : Bytes table) (ok : every (rowOk rows n) 64 rows table ≡ true) where
   event-good : (e : List ℕ) → Bytes e → eventOk rows n e ≡ true → GoodEvent n (eventOf table text e)
   event-good e b h =
       record {
         symbol = text-good text (asStr (symbolCell e)) bt;
-        action = str-good rows n (drop 48 e) (bytes-drop 48 e b) (cell-at rows n e 1 h (omega arith));
-        client = str-good rows n (drop 64 e) (bytes-drop 64 e b) (cell-at rows n e 2 h (omega arith));
+        action = str-good rows n (drop 48 e) (bytes-drop 48 e b) (event-cell-at rows n e 1 h (omega arith));
+        client = str-good rows n (drop 64 e) (bytes-drop 64 e b) (event-cell-at rows n e 2 h (omega arith));
         shares = whole-fits (drop 80 e) (bytes-drop 80 e b);
-        reason = str-good rows n (drop 128 e) (bytes-drop 128 e b) (cell-at rows n e 6 h (omega arith));
-        orders = array-good rows table text n bt br ok (asArray (ordersCell e)) (array-within rows n (drop 192 e) (cell-at rows n e 10 h (omega arith)));
+        reason = str-good rows n (drop 128 e) (bytes-drop 128 e b) (event-cell-at rows n e 6 h (omega arith));
+        orders = array-good rows table text n bt br ok (asArray (ordersCell e)) (cell-array rows n (drop 192 e) (event-cell-at rows n e 10 h (omega arith)));
       }
 
   events-good : (k : ℕ) (s : List ℕ) → Bytes s → every (eventOk rows n) 240 k s ≡ true → Each (GoodEvent n) (records (eventOf table text) 240 k s)
@@ -129,13 +103,6 @@ module _ (rows : ℕ) (table text : List ℕ) (n : ℕ) (bt : Bytes text) (br : 
       (events-good k (drop 240 s) (bytes-drop 240 s b) (and-right (eventOk rows n s) (every (eventOk rows n) 240 k (drop 240 s)) h))
 
 -- ---- the book
-pub book-length : (s : List ℕ) → bookLayout s ≡ L.Sound → length s ≡ 24 + 240 * eventCount s + 64 * rowCount s + textLength s
-unfolding partsOk
-book-length s h =
-    let events = every (eventOk (rowCount s) (textLength s)) 240 (eventCount s) (eventsIn s) in
-    let rows = every (rowOk (rowCount s) (textLength s)) 64 (rowCount s) (rowsIn s) in
-    book-size s (and-left (tablesOk s) events (and-left (tablesOk s && events) rows (sound-counts s h .parts)))
-
 pub text-length : (s : List ℕ) → bookLayout s ≡ L.Sound → length (textOf s) ≡ textLength s
 text-length s h = laid s h .text
 

@@ -39,11 +39,6 @@ unfolding steps ordersAfter
 steps-orders st [] = refl
 steps-orders st (e ∷ es) = steps-orders (step e st) es
 
-pub steps-positions : (st su : State) (es : List Event) → st .positions ≡ su .positions → steps st es .positions ≡ steps su es .positions
-unfolding steps
-steps-positions st su [] h = h
-steps-positions st su (e ∷ es) h = steps-positions (step e st) (step e su) es (ap (positionsStep e) h)
-
 -- the caller's time is nowhere in the orders
 pub orders-apart : (log : List ℕ) (now : ℤ) → stateOf log now .orders ≡ recovered log .orders
 orders-apart log now = steps-orders (firstState now) (eventsOf log) ∙ sym (steps-orders (firstState (pos 0)) (eventsOf log))

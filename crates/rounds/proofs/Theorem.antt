@@ -24,7 +24,7 @@ use Rattle.records.specs.Search.{isIntent, countWhere}
 use Rattle.records.specs.declared.order.Order.{Order}
 use Rattle.effects.specs.Event.{Event, eventsOf}
 use Rattle.recovery.specs.Recover.{firstState, roomy}
-use Rattle.recovery.proofs.BookCounts.{sound-counts}
+use Rattle.book.proofs.Sound.{sound-counts, sound-size}
 use Rattle.state.specs.State.{sameOrder, sameLists, sameState}
 use Rattle.intents.specs.Intents.{chosen, reached, addendum, entryTexts, ordersMost}
 use Rattle.intents.specs.declared.Chosen.{Chosen}
@@ -36,7 +36,7 @@ use Rattle.rounds.proofs.Progress.{Prog, prog-distinct, weight-none, am
 use Rattle.rounds.proofs.Ending.{RefsIn, ends-same, ends-flags}
 use Rattle.rounds.proofs.Stepping.{steps-number, timeless, noted, marks-same, positions-self}
 use Rattle.rounds.proofs.Accepted.{book-accepted}
-use Rattle.rounds.proofs.SoundBook.{book-length, text-length, orders-good}
+use Rattle.rounds.proofs.SoundBook.{text-length, orders-good}
 use Rattle.rounds.proofs.Calls.{each-map, round-refused, roundSymbols, roundAddendum, First, first-full, first-is, Askable, Second, second-full, Joinable, Third, third-full, third-done, third-addendum, stages}
 use Rattle.rounds.proofs.AddendumBook.{length-addendum}
 use Rattle.rounds.proofs.EntriesJoined.{add-sound, add-entries, add-no-rows, add-texts}
@@ -49,9 +49,9 @@ size-by : (a : Bool) (l : Layout) → oversizeIf a l ≡ L.Sound → a ≡ false
 size-by true l h = let z : _≡_ {A = ℕ} 0 1 = cc in absurd (omega arith)
 size-by false l h = refl
 
-sound-size : (s : List ℕ) → bookLayout s ≡ L.Sound → length s ≤ 1048576
+sound-most : (s : List ℕ) → bookLayout s ≡ L.Sound → length s ≤ 1048576
 unfolding bookLayout
-sound-size s h =
+sound-most s h =
     ltb-false 1048576 (length s)
     (size-by (ltb 1048576 (length s))
     (brokenIf (ltb (length s) 24) (oversizeIf (ltb 4096 (eventCount s) || ltb 4096 (rowCount s)) (soundIf (partsOk s)))) h)
@@ -144,8 +144,8 @@ module _ (broker : List BrokerOrderStatus) (small : Small (chosen broker)) where
         let same = addendum-same broker u x shows in
         let ne : eventCount y ≡ eventCount x + openIntents x = led-count l ∙ omega (arith, led-total l) in
         let nb = length-addendum (chosen broker) (u .time) (recovered x .marks .number) (roundSymbols u x) in
-        let ny = book-length y (l .sound) in
-        let sy = sound-size y (l .sound) in
+        let ny = sound-size y (l .sound) in
+        let sy = sound-most y (l .sound) in
         let ky = sound-counts y (l .sound) in
         let ty = uncut-texts l e in
         let nr = uncut-reached in

@@ -25,7 +25,8 @@ use Rattle.records.specs.declared.order.Order.{Order}
 use Rattle.effects.specs.Event.{Event, eventsOf}
 use Rattle.audit.specs.Verdict.{bookVerdict}
 use Rattle.audit.specs.declared.validate.Verdict.the-variants as Ver
-use Rattle.recovery.specs.Recover.{State, stateOf, timeLayout}
+use Rattle.book.specs.Time.{timeLayout}
+use Rattle.recovery.specs.Recover.{State, stateOf}
 use Rattle.state.specs.State.{sameState}
 use Rattle.intents.specs.Intents.{reached, chosen}
 use Rattle.intents.specs.declared.Chosen.{Chosen}

@@ -20,7 +20,7 @@ use Rattle.wire.proofs.Table.{records-none}
 use Rattle.wire.proofs.Numbers.{le-add}
 use Rattle.wire.proofs.Records.{length-records}
 use Rattle.symbol.specs.Symbol.{wideFieldOk}
-use Rattle.symbol.proofs.Text.{and-left, and-right, and-false, and-true}
+use Rattle.wire.proofs.Bools.{and-left, and-right, and-false, and-true}
 use Rattle.sheet.specs.Sheet.{orderCount, positionCount, ordersFailed, positionsFailed, ordersIn, positionsIn, brokerOrderOk, brokerOrderOf, brokerPositionOf, sheetOrders, sheetPositions, sheetMost, offsetsOk, markOk, headerOk, partsOk, sheetLayout}
 
 -- the state and the four zeros behind it are one number of at most 5

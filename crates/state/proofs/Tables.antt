@@ -1,9 +1,9 @@
 -- Two tables compared record by record, as a loop takes them: up to place i they agree, so what is left of both decides.
 -- Assumes nothing.
 use Prim.Native.Nat.{ℕ, zero, suc, _+_, _*_, _%_, _≤_, _<_}
-use mathlib.Core.Path.{_≡_, refl, sym, ap, _∙_}
-use mathlib.Core.List.{List, [], _∷_}
-use mathlib.Core.Bool.{Bool, true, false, _&&_}
+use mathlib.Core.Path.{_≡_, refl, ap}
+use mathlib.Core.List.{List}
+use mathlib.Core.Bool.{Bool, true, false}
 use native.Mathlib.Omega.{arith}
 use lib.IntN.{ℤ}
 use lib.ListN.{drop}
@@ -11,14 +11,11 @@ use mir.Syntax.{w32, w64}
 use mir.Val.{SFits, toZ, ofZ}
 use mir.ValLaws.{toZ-ofZ}
 use Rattle.wire.specs.Table.{records}
+use Rattle.wire.proofs.Bools.{and-false}
 use Rattle.records.specs.Record.{flag, flagsOf, present}
 use Rattle.records.specs.declared.order.Order.{Order}
 use Rattle.records.proofs.Walk.{rest, rest-all, rest-next, rest-none}
 use Rattle.state.specs.State.{sameInt, sameLists, readFlags}
-
-and-false : (b : Bool) → (b && false) ≡ false
-and-false true = refl
-and-false false = refl
 
 module _ {A : Type 0} (f : A → A → Bool) (g : List ℕ → A) (w : ℕ) where
   -- lists of different lengths differ

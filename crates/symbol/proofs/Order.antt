@@ -14,7 +14,8 @@ use Rattle.wire.specs.Table.{padded}
 use Rattle.wire.proofs.Records.{padded-none}
 use Rattle.wire.proofs.Written.{Bytes, bytesOf-less, bytesOf-none}
 use Rattle.symbol.specs.Symbol.{symbolWidth, symbolByte, allOf, parses, symbolOf, bytesBefore, before}
-use Rattle.symbol.proofs.Text.{and-left, and-right, padded-nil, padded-cons, text-bytes, parses-most, parses-bytes}
+use Rattle.wire.proofs.Bools.{and-left, and-right}
+use Rattle.symbol.proofs.Text.{padded-nil, padded-cons, text-bytes, parses-most, parses-bytes}
 
 -- ---- one turn of the loop: the lowest byte of each decides, or the bytes above it
 pub before-less : (n x y : ℕ) → 0 < n → x % 256 < y % 256 → bytesBefore (bytesOf n x) (bytesOf n y) ≡ true

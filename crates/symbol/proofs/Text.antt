@@ -10,33 +10,18 @@ use lib.Dec.{eqb, leb}
 use borrow.Author.Tests.{le-leb, lt-leb, leb-true, eqb-true, eqb-false, eq-eqb, ne-eqb}
 use mir.Syntax.{w8}
 use mir.Val.{Fits}
-use lib.ListN.{length, drop, getD, length-drop}
+use lib.ListN.{length, take, drop, getD, length-drop}
 use lib.Seq.{drop-cons}
 use Rattle.wire.specs.Le.{le, bytesOf, sameBytes}
 use Rattle.wire.specs.Table.{padded}
+pub use Rattle.wire.proofs.Bools.{and-left, and-right}
+use Rattle.wire.proofs.Bools.{and-false, and-true}
 use Rattle.wire.proofs.Records.{padded-none}
 use Rattle.wire.proofs.Numbers.{le-nil, le-at}
 use Rattle.wire.proofs.Written.{Bytes, none, more, le-lt, same-unlike}
 use Rattle.symbol.specs.Symbol.{symbolWidth, symbolByte, allOf, parses, symbolOf, symbolIs, sameSymbol}
 
 -- ---- truths
-pub and-left : (a b : Bool) → (a && b) ≡ true → a ≡ true
-and-left true b h = refl
-and-left false b h = h
-
-pub and-right : (a b : Bool) → (a && b) ≡ true → b ≡ true
-and-right true b h = h
-and-right false true h = refl
-and-right false false h = h
-
-pub and-false : (a : Bool) → (a && false) ≡ false
-and-false true = refl
-and-false false = refl
-
-pub and-true : (a : Bool) → (a && true) ≡ a
-and-true true = refl
-and-true false = refl
-
 pub or-false : (a : Bool) → (a || false) ≡ a
 or-false true = refl
 or-false false = refl
@@ -59,6 +44,11 @@ low-byte b l h =
 pub bytes-of : (s : List ℕ) → ((i : ℕ) → Fits w8 (getD s i 0)) → Bytes s
 bytes-of [] h = none
 bytes-of (b ∷ s) h = more (h 0 .fits) (bytes-of s (λ i. h (suc i)))
+
+pub bytes-take : (n : ℕ) (s : List ℕ) → Bytes s → Bytes (take n s)
+bytes-take zero s b = none
+bytes-take (suc n) [] b = none
+bytes-take (suc n) (x ∷ s) (more h b) = more h (bytes-take n s b)
 
 pub bytes-drop : (n : ℕ) (s : List ℕ) → Bytes s → Bytes (drop n s)
 bytes-drop zero s b = b
@@ -121,10 +111,6 @@ all-goes f i t p l e =
     rw (d, e)
 
 -- ---- what a text that parses is
-pub parses-least : (t : List ℕ) → parses t ≡ true → 1 ≤ length t
-unfolding parses
-parses-least t h = leb-true 1 (length t) (and-left _ (leb (length t) symbolWidth) (and-left _ (allOf symbolByte t) h))
-
 pub parses-most : (t : List ℕ) → parses t ≡ true → length t ≤ symbolWidth
 unfolding parses
 parses-most t h = leb-true (length t) symbolWidth (and-right (leb 1 (length t)) _ (and-left _ (allOf symbolByte t) h))

@@ -1,14 +1,14 @@
 -- Numbers at the front of a list, each law stated once over the width.
 -- Assumes nothing.
-use Prim.Native.Nat.{ℕ, zero, suc, _+_, _*_, _^_, _-_, _%_, _/_, _≤_, _<_}
-use mathlib.Core.Path.{_≡_, refl, sym, ap, _∙_}
+use Prim.Native.Nat.{ℕ, zero, suc, _+_, _*_, _^_, _-_, _≤_}
+use mathlib.Core.Path.{_≡_, refl}
 use mathlib.Core.List.{List, [], _∷_, _++_}
 use native.Mathlib.Nat.{zero-add, suc-add, mul-zero, not-suc-le-zero, le-of-suc-le-suc, mul-assoc, pow-succ'}
 use native.Mathlib.Omega.{arith}
 use lib.ListN.{length, take, drop, getD, length-drop}
 use lib.Seq.{drop-append-le, take-all}
 use native.Mathlib.Nat.{le-of-eq}
-use Rattle.wire.specs.Le.{le, bytesOf}
+use Rattle.wire.specs.Le.{le}
 
 -- past the end a number is 0
 pub le-nil : (n : ℕ) → le n [] ≡ 0
@@ -52,13 +52,6 @@ le-drop-append n k s t h =
     let a : k ≤ length s = omega arith in
     let b : n ≤ length (drop k s) = rw length-drop (omega arith) in
     rw (drop-append-le k s t a) (le-append n (drop k s) t b)
-
-pub le-take : (n k : ℕ) (s : List ℕ) → n ≤ k → le n (take k s) ≡ le n s
-unfolding le
-le-take zero k s h = refl
-le-take (suc n) zero s h = absurd (not-suc-le-zero h)
-le-take (suc n) (suc k) [] h = refl
-le-take (suc n) (suc k) (b ∷ s) h = rw (le-take n k s (le-of-suc-le-suc h))
 
 pub drop-whole : (k : ℕ) (l : List ℕ) → take (length l - k) (drop k l) ≡ drop k l
 drop-whole k l = take-all (length l - k) (drop k l) (le-of-eq (length-drop k l))

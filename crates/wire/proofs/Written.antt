@@ -1,21 +1,18 @@
 -- Bytes that are written: one turn of each loop, and what reads them back.
 -- Assumes nothing.
 use Prim.Native.Nat.{ℕ, zero, suc, _+_, _*_, _^_, _-_, _%_, _/_, _≤_, _<_}
-use mathlib.Core.Bool.{Bool, true, false, _&&_}
-use mathlib.Core.Path.{_≡_, refl, sym, ap, _∙_}
+use mathlib.Core.Bool.{true, false}
+use mathlib.Core.Path.{_≡_, refl, ap}
 use mathlib.Core.List.{List, [], _∷_, _++_, append-nil}
-use native.Mathlib.Nat.{not-suc-le-zero, le-of-suc-le-suc, pow-succ', mul-comm, div-lt-iff-lt-mul}
+use native.Mathlib.Nat.{not-suc-le-zero, pow-succ', mul-comm, div-lt-iff-lt-mul}
 use lib.Dec.{eqb, lit<}
 use borrow.Author.Tests.{eq-eqb, ne-eqb}
 use native.Mathlib.Omega.{arith}
 use native.Mathlib.Numerals.{add-one}
-use lib.ListN.{length, take, drop, getD, set, replicate, drop-of-length-le, length-replicate, replicate-append-replicate}
+use lib.ListN.{length, drop, getD, set, replicate, drop-of-length-le, length-replicate, replicate-append-replicate}
 use lib.Seq.{sets, set-out, drop-cons, set-at, append-snoc, drop-length}
 use Rattle.wire.specs.Le.{le, bytesOf, sameBytes}
-
-and-false : (b : Bool) → (b && false) ≡ false
-and-false true = refl
-and-false false = refl
+use Rattle.wire.proofs.Bools.{and-false}
 
 -- what would be written past the end is dropped
 pub sets-past : (l : List ℕ) (i : ℕ) (vs : List ℕ) → length l ≤ i → sets l i vs ≡ l
@@ -93,15 +90,6 @@ le-bytesOf (suc n) x t h =
 pub data Bytes : List ℕ → Type 0 where
   none : Bytes []
   more : {b : ℕ} {s : List ℕ} → b < 256 → Bytes s → Bytes (b ∷ s)
-
-pub bytesOf-le : (n : ℕ) (s : List ℕ) → Bytes s → n ≤ length s → bytesOf n (le n s) ≡ take n s
-unfolding bytesOf le
-bytesOf-le zero s b h = refl
-bytesOf-le (suc n) [] none h = absurd (not-suc-le-zero h)
-bytesOf-le (suc n) (x ∷ s) (more p b) h =
-    let low : (x + 256 * le n s) % 256 ≡ x = omega arith in
-    let high : (x + 256 * le n s) / 256 ≡ le n s = omega arith in
-    rw (low, high, bytesOf-le n s b (le-of-suc-le-suc h))
 
 -- a number of n bytes is below 256 ^ n
 pub le-lt : (n : ℕ) (s : List ℕ) → Bytes s → le n s < 256 ^ n

@@ -6,7 +6,7 @@ use denote.Ref.{now}
 use lib.Dec.{eqb}
 use lib.ListN.{length}
 use Rattle.wire.specs.Le.{le}
-use Rattle.symbol.proofs.Text.{and-false, and-true}
+use Rattle.wire.proofs.Bools.{and-false, and-true}
 use Rattle.symbol.proofs.Symbol.is_text.Statement.{statement}
 use Rattle.symbol.proofs.Symbol.is_text.Tie as tie
 

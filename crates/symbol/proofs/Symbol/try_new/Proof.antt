@@ -11,7 +11,8 @@ use borrow.Author.Needs.{needs}
 use borrow.Author.Tests.{le-leb, lt-leb, not-true, not-false}
 use Rattle.wire.specs.Le.{le}
 use Rattle.symbol.specs.Symbol.{symbolByte, allOf, parses, parsed}
-use Rattle.symbol.proofs.Text.{bytes-of, word-step, word-small, all-fails, all-goes, and-false}
+use Rattle.wire.proofs.Bools.{and-false}
+use Rattle.symbol.proofs.Text.{bytes-of, word-step, word-small, all-fails, all-goes}
 use Rattle.symbol.proofs.Symbol.try_new.Statement.{statement}
 use Rattle.symbol.proofs.Symbol.try_new.Tie as tie
 

@@ -62,3 +62,13 @@ pub fn is_three(s: &[u8], a: u64, b: u64, c: u64) -> bool {
     }
     wire::u64_at(s, 16) == c
 }
+
+pub fn is_four(s: &[u8], a: u64, b: u64, c: u64, d: u64) -> bool {
+    if s.len() != 32 {
+        return false;
+    }
+    if !is_two(wire::part(s, 0, 16), a, b) {
+        return false;
+    }
+    is_two(wire::from(s, 16), c, d)
+}

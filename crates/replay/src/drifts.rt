@@ -28,38 +28,30 @@ fn entry_bytes(d: Drift) -> usize {
     }
 }
 
-// Section 5.
-fn refusal(tally: &mut [u64], case: u64, b: &[u8], d: Drift) {
-    tally::compared(
-        tally,
-        tally::DRIFTS,
-        case,
-        5,
-        is_drift(body::section(b, 5), d),
-    );
-}
-
-// Section 6.
-fn entries(tally: &mut [u64], case: u64, b: &[u8], bytes: &[u8]) {
-    let agrees = wire::same(bytes, body::section(b, 6));
-    tally::compared(tally, tally::ENTRIES, case, 6, agrees);
-}
-
-// Sections 5 and 6.
-fn reconciled(tally: &mut [u64], case: u64, b: &[u8]) {
-    let mut out = [0u8; 8192];
+fn drift(b: &[u8], out: &mut [u8]) -> Drift {
     let equity = wire::signed(body::number_in(b, 4, 0));
-    let n = body::number_in(b, 4, 1);
-    let d = lent::reconcile_in(
+    lent::drift_in(
         body::section(b, 1),
         body::section(b, 2),
         body::section(b, 3),
         equity,
-        &mut out,
-        n,
+        out,
+        body::number_in(b, 4, 1),
+    )
+}
+
+// Sections 5 and 6.
+fn reconciled(tally: &mut [u64], b: &[u8]) {
+    let mut out = io::buffer();
+    let d = drift(b, &mut out);
+    tally::compared(tally, tally::DRIFTS, 5, is_drift(body::section(b, 5), d));
+    tally::bytes(
+        tally,
+        tally::ENTRIES,
+        b,
+        6,
+        wire::part(&out, 0, entry_bytes(d)),
     );
-    refusal(tally, case, b, d);
-    entries(tally, case, b, wire::part(&out, 0, entry_bytes(d)));
 }
 
 fn is_held(s: &[u8], h: Held) -> bool {
@@ -72,12 +64,12 @@ fn is_held(s: &[u8], h: Held) -> bool {
 }
 
 // Section 7.
-fn held(tally: &mut [u64], case: u64, b: &[u8]) {
+fn held(tally: &mut [u64], b: &[u8]) {
     let h = drift::held::held_value(body::section(b, 1), body::section(b, 3));
-    tally::compared(tally, tally::HELD, case, 7, is_held(body::section(b, 7), h));
+    tally::compared(tally, tally::HELD, 7, is_held(body::section(b, 7), h));
 }
 
-pub fn replay(tally: &mut [u64], case: u64, b: &[u8]) {
-    reconciled(tally, case, b);
-    held(tally, case, b);
+pub fn replay(tally: &mut [u64], b: &[u8]) {
+    reconciled(tally, b);
+    held(tally, b);
 }

@@ -1,8 +1,10 @@
 // The entries that write, over the first bytes of a buffer: as many as are lent, or as the buffer has. The buffers of this program are larger
 // than any answer of the list, and stand for any larger room.
+use crate::saved;
 use compare::Comparison;
 use drift::report::Drift;
-use marks::Marks;
+use intents::Reconciling;
+use join::Joining;
 use recovery::recover::Recovery;
 
 fn room(bytes: u64) -> isize {
@@ -23,21 +25,33 @@ pub fn recover_in(
     recovery::recover::reconstruct_state(book, time, &mut orders[..n], &mut positions[..m])
 }
 
-// The comparison into so many bytes of a report.
-pub fn compare_in(
-    marks: Marks,
-    orders: &[u8],
-    positions: &[u8],
-    sheet: &[u8],
-    report: &mut [u8],
-    bytes: u64,
-) -> Comparison {
+// The comparison of a state into so many bytes of a report.
+pub fn compare_in(s: &[u8], sheet: &[u8], report: &mut [u8], bytes: u64) -> Comparison {
     let n = io::count(room(bytes), report);
-    compare::compare_broker_state(marks, orders, positions, sheet, &mut report[..n])
+    saved::compare(s, sheet, &mut report[..n])
+}
+
+// Reconciling of a state into so many bytes of an addendum.
+pub fn reconcile_in(
+    s: &[u8],
+    sheet: &[u8],
+    queries: &[u8],
+    time: i64,
+    addendum: &mut [u8],
+    bytes: u64,
+) -> Reconciling {
+    let n = io::count(room(bytes), addendum);
+    saved::reconcile(s, sheet, queries, time, &mut addendum[..n])
+}
+
+// The join into so many bytes.
+pub fn join_in(book: &[u8], addendum: &[u8], k: u64, out: &mut [u8], bytes: u64) -> Joining {
+    let n = io::count(room(bytes), out);
+    join::join(book, addendum, k, &mut out[..n])
 }
 
 // The drift into so many bytes of entries.
-pub fn reconcile_in(
+pub fn drift_in(
     holdings: &[u8],
     targets: &[u8],
     prices: &[u8],

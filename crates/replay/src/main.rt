@@ -2,12 +2,14 @@
 // the answers byte for byte with the recorded ones. FORMAT.md has the list's layout.
 //
 // It prints a line for each answer that differs, by the case's number, from 0, and the section's, then how many answers of each sort were compared.
+mod addenda;
 mod body;
 mod conversions;
 mod drifts;
 mod lent;
 mod logs;
 mod numbers;
+mod saved;
 mod states;
 mod tally;
 
@@ -18,48 +20,46 @@ fn print_line(text: &[u8]) {
 }
 
 // A case of a kind. One of no kind that is known differs in its section 0.
-fn by_kind(tally: &mut [u64], case: u64, kind: u32, b: &[u8]) {
+fn by_kind(tally: &mut [u64], kind: u32, b: &[u8]) {
     tally::add(tally, tally::CASES);
     match kind {
-        1 => logs::replay(tally, case, b),
-        2 => drifts::replay(tally, case, b),
-        3 => conversions::replay(tally, case, b),
-        4 => states::replay(tally, case, b),
-        _ => tally::differs(tally, case, 0),
+        1 => logs::replay(tally, b),
+        2 => drifts::replay(tally, b),
+        3 => conversions::replay(tally, b),
+        4 => states::replay(tally, b),
+        _ => tally::differs(tally, 0),
     }
 }
 
 // Reads a body of so many bytes and replays it; false where the list has it not whole, or it is above 65,536 bytes.
-fn read_body(fd: i32, tally: &mut [u64], case: u64, kind: u32, len: u32) -> bool {
-    let mut bytes = [0u8; 65536];
+fn read_body(fd: i32, tally: &mut [u64], kind: u32, len: u32) -> bool {
+    let mut bytes = io::large_buffer();
     let n = lent::read_in(fd, &mut bytes, len as u64);
     if n != (len as usize) {
         return false;
     }
-    by_kind(tally, case, kind, wire::part(&bytes, 0, n));
+    by_kind(tally, kind, wire::part(&bytes, 0, n));
     true
 }
 
 // Reads a case and replays it.
-fn read_case(fd: i32, tally: &mut [u64], case: u64) -> bool {
+fn read_case(fd: i32, tally: &mut [u64]) -> bool {
     let mut head = [0u8; 8];
     if io::read_full(fd, &mut head) != 8 {
         return false;
     }
     let kind = wire::u32_of(&head);
     let len = wire::u32_at(&head, 4);
-    read_body(fd, tally, case, kind, len)
+    read_body(fd, tally, kind, len)
 }
 
 // Replays so many cases; false where the list ends before.
 fn read_cases(fd: i32, tally: &mut [u64], count: u32) -> bool {
-    let mut case: u64 = 0;
     let mut left = count;
     while 0 < left {
-        if !read_case(fd, tally, case) {
+        if !read_case(fd, tally) {
             return false;
         }
-        case += 1;
         left -= 1;
     }
     true
@@ -97,7 +97,7 @@ fn main() {
         os::fail(b"cases.bin");
         return;
     }
-    let mut tally = [0u64; 20];
+    let mut tally = [0u64; 23];
     read_list(fd, &mut tally);
     libc::close(fd);
     tally::print(&tally);

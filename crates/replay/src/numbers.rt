@@ -4,6 +4,9 @@ use audit::sequence::Highest;
 use audit::sequence::Window;
 use audit::validate::Verdict;
 use compare::Comparison;
+use intents::Reconciled;
+use intents::Reconciling;
+use join::Joining;
 use marks::action::Action;
 use marks::action::RecoveryAction;
 use recovery::recover::Recovery;
@@ -38,7 +41,8 @@ pub fn is_window(s: &[u8], w: Window) -> bool {
     }
 }
 
-fn action_number(a: RecoveryAction) -> u64 {
+// A recovery's action.
+pub fn action(a: RecoveryAction) -> u64 {
     match a {
         RecoveryAction::Restart => 0,
         RecoveryAction::Resume => 1,
@@ -55,22 +59,9 @@ pub fn recovery_refusal(r: Recovery) -> u64 {
     }
 }
 
-// The recovery's action, 0 where it is refused.
-pub fn recovery_action(r: Recovery) -> u64 {
-    match r {
-        Recovery::Done(x) => {
-            let a = x.action;
-            action_number(a)
-        }
-        Recovery::Oversize => 0,
-        Recovery::Broken => 0,
-        Recovery::NoRoom => 0,
-    }
-}
-
 pub fn is_action(s: &[u8], a: Action) -> bool {
     match a {
-        Action::Is(x) => body::is_two(s, 0, action_number(x)),
+        Action::Is(x) => body::is_two(s, 0, action(x)),
         Action::Broken => body::is_two(s, 2, 0),
     }
 }
@@ -105,5 +96,66 @@ pub fn is_equality(s: &[u8], e: Equality) -> bool {
         }
         Equality::Oversize => body::is_two(s, 1, 0),
         Equality::Broken => body::is_two(s, 2, 0),
+    }
+}
+
+pub fn reconciling_refusal(r: Reconciling) -> u64 {
+    match r {
+        Reconciling::Done(_) => 0,
+        Reconciling::Oversize => 1,
+        Reconciling::Broken => 2,
+        Reconciling::NoNumbers => 8,
+        Reconciling::NoRoom => 3,
+    }
+}
+
+// What reconciling has written, zeros where it is refused.
+fn reconciled(r: Reconciling) -> Reconciled {
+    match r {
+        Reconciling::Done(x) => x,
+        Reconciling::Oversize => nothing(),
+        Reconciling::Broken => nothing(),
+        Reconciling::NoNumbers => nothing(),
+        Reconciling::NoRoom => nothing(),
+    }
+}
+
+fn nothing() -> Reconciled {
+    Reconciled {
+        entries: 0,
+        unreached: 0,
+        length: 0,
+    }
+}
+
+pub fn entries(r: Reconciling) -> u64 {
+    reconciled(r).entries as u64
+}
+
+pub fn unreached(r: Reconciling) -> u64 {
+    reconciled(r).unreached as u64
+}
+
+pub fn addendum_bytes(r: Reconciling) -> usize {
+    reconciled(r).length
+}
+
+pub fn joining_refusal(j: Joining) -> u64 {
+    match j {
+        Joining::Done(_) => 0,
+        Joining::Oversize => 1,
+        Joining::Broken => 2,
+        Joining::TooMany => 13,
+        Joining::NoRoom => 3,
+    }
+}
+
+pub fn joined_bytes(j: Joining) -> usize {
+    match j {
+        Joining::Done(n) => n,
+        Joining::Oversize => 0,
+        Joining::Broken => 0,
+        Joining::TooMany => 0,
+        Joining::NoRoom => 0,
     }
 }

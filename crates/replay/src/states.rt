@@ -2,77 +2,93 @@
 use crate::body;
 use crate::lent;
 use crate::numbers;
+use crate::saved;
 use crate::tally;
-use compare::Comparison;
-use marks::Marks;
+use intents::Reconciling;
 
-// The marks of the first state and of the second.
-fn first_marks(b: &[u8]) -> Marks {
-    marks_record::marks_of(body::section(b, 2))
-}
-
-fn second_marks(b: &[u8]) -> Marks {
-    marks_record::marks_of(body::section(b, 6))
+// The state whose marks, orders and positions are three sections from this one on.
+fn lend(b: &[u8], first: u8, s: &mut [u8]) {
+    let n = first as u32;
+    wire::copy(s, 0, body::section(b, n));
+    saved::put_records(s, body::section(b, n + 1), body::section(b, n + 2));
 }
 
 // Section 12.
-fn action(tally: &mut [u64], case: u64, b: &[u8]) {
-    let a = first_marks(b).recovery_action(body::section(b, 3));
-    let agrees = numbers::is_action(body::section(b, 12), a);
-    tally::compared(tally, tally::ACTIONS, case, 12, agrees);
-}
-
-// Section 13.
-fn refusal(tally: &mut [u64], case: u64, b: &[u8], c: Comparison) {
-    let agrees = body::is_one(body::section(b, 13), numbers::comparison_refusal(c));
-    tally::compared(tally, tally::COMPARISONS, case, 13, agrees);
-}
-
-// Section 14.
-fn report(tally: &mut [u64], case: u64, b: &[u8], records: &[u8]) {
-    let agrees = wire::same(records, body::section(b, 14));
-    tally::compared(tally, tally::REPORTS, case, 14, agrees);
+fn action(tally: &mut [u64], b: &[u8], s: &[u8]) {
+    let a = saved::next_action(s);
+    tally::compared(
+        tally,
+        tally::ACTIONS,
+        12,
+        numbers::is_action(body::section(b, 12), a),
+    );
 }
 
 // Sections 13 and 14.
-fn compared(tally: &mut [u64], case: u64, b: &[u8]) {
-    let mut out = [0u8; 8192];
-    let n = body::number_in(b, 11, 1);
-    let c = lent::compare_in(
-        first_marks(b),
-        body::section(b, 3),
-        body::section(b, 4),
-        body::section(b, 9),
-        &mut out,
-        n,
-    );
-    refusal(tally, case, b, c);
-    report(
+fn compared(tally: &mut [u64], b: &[u8], s: &[u8]) {
+    let mut out = io::buffer();
+    let c = lent::compare_in(s, body::section(b, 9), &mut out, body::number_in(b, 11, 1));
+    let agrees = body::is_one(body::section(b, 13), numbers::comparison_refusal(c));
+    tally::compared(tally, tally::COMPARISONS, 13, agrees);
+    tally::bytes(
         tally,
-        case,
+        tally::REPORTS,
         b,
+        14,
         wire::part(&out, 0, numbers::report_bytes(c)),
     );
 }
 
-// Section 17.
-fn equality(tally: &mut [u64], case: u64, b: &[u8]) {
-    let e = state::states_equal(
-        body::section(b, 1),
-        first_marks(b),
-        body::section(b, 3),
-        body::section(b, 4),
-        body::section(b, 5),
-        second_marks(b),
-        body::section(b, 7),
-        body::section(b, 8),
+// Section 15.
+fn reconciling_numbers(tally: &mut [u64], b: &[u8], r: Reconciling) {
+    let agrees = body::is_three(
+        body::section(b, 15),
+        numbers::reconciling_refusal(r),
+        numbers::entries(r),
+        numbers::unreached(r),
     );
-    let agrees = numbers::is_equality(body::section(b, 17), e);
-    tally::compared(tally, tally::EQUALITIES, case, 17, agrees);
+    tally::compared(tally, tally::RECONCILINGS, 15, agrees);
 }
 
-pub fn replay(tally: &mut [u64], case: u64, b: &[u8]) {
-    action(tally, case, b);
-    compared(tally, case, b);
-    equality(tally, case, b);
+// Reconciling in the addendum's room.
+fn reconcile(b: &[u8], s: &[u8], out: &mut [u8]) -> Reconciling {
+    let time = wire::signed(body::number_in(b, 11, 0));
+    let n = body::number_in(b, 11, 2);
+    lent::reconcile_in(s, body::section(b, 9), body::section(b, 10), time, out, n)
+}
+
+// Sections 15 and 16.
+fn reconciled(tally: &mut [u64], b: &[u8], s: &[u8]) {
+    let mut out = io::buffer();
+    let r = reconcile(b, s, &mut out);
+    reconciling_numbers(tally, b, r);
+    tally::bytes(
+        tally,
+        tally::ADDENDA,
+        b,
+        16,
+        wire::part(&out, 0, numbers::addendum_bytes(r)),
+    );
+}
+
+// Section 17.
+fn equality(tally: &mut [u64], b: &[u8], s: &[u8]) {
+    let mut t = io::buffer();
+    lend(b, 6, &mut t);
+    let e = saved::equal(body::section(b, 1), s, body::section(b, 5), &t);
+    tally::compared(
+        tally,
+        tally::EQUALITIES,
+        17,
+        numbers::is_equality(body::section(b, 17), e),
+    );
+}
+
+pub fn replay(tally: &mut [u64], b: &[u8]) {
+    let mut s = io::buffer();
+    lend(b, 2, &mut s);
+    action(tally, b, &s);
+    compared(tally, b, &s);
+    reconciled(tally, b, &s);
+    equality(tally, b, &s);
 }

@@ -1,4 +1,5 @@
 // How many answers of each sort were compared, by the sort's number, and a line for each that is not the recorded one.
+use crate::body;
 use libc::STDOUT_FILENO;
 
 pub const CASES: usize = 0;
@@ -39,7 +40,18 @@ pub const CENTS: usize = 17;
 
 pub const CASTS: usize = 18;
 
-pub const DISAGREEMENTS: usize = 19;
+pub const RECONCILINGS: usize = 19;
+
+pub const ADDENDA: usize = 20;
+
+pub const JOINS: usize = 21;
+
+pub const DISAGREEMENTS: usize = 22;
+
+// How many of a sort there are.
+fn count(tally: &[u64], sort: usize) -> u64 {
+    if sort < tally.len() { tally[sort] } else { 0 }
+}
 
 // One more of a sort.
 pub fn add(tally: &mut [u64], sort: usize) {
@@ -61,26 +73,37 @@ fn print_difference(case: u64, section: u64) {
     io::write_all(STDOUT_FILENO, b" differs\n");
 }
 
-pub fn differs(tally: &mut [u64], case: u64, section: u64) {
+// An answer of the case that was counted last. Cases are numbered from 0.
+pub fn differs(tally: &mut [u64], section: u32) {
     add(tally, DISAGREEMENTS);
-    print_difference(case, section);
+    let cases = count(tally, CASES);
+    if 0 < cases {
+        print_difference(cases - 1, section as u64);
+    }
 }
 
-// Counts an answer to a case's section, and whether it differs from the recorded one.
-pub fn compared(tally: &mut [u64], sort: usize, case: u64, section: u64, agrees: bool) {
+// Counts an answer to a section, and whether it differs from the recorded one.
+pub fn compared(tally: &mut [u64], sort: usize, section: u32, agrees: bool) {
     add(tally, sort);
     if !agrees {
-        differs(tally, case, section);
+        differs(tally, section);
     }
+}
+
+// Counts an answer in bytes.
+pub fn bytes(tally: &mut [u64], sort: usize, b: &[u8], section: u32, answer: &[u8]) {
+    compared(
+        tally,
+        sort,
+        section,
+        wire::same(answer, body::section(b, section)),
+    );
 }
 
 // A line of a sort's count.
 fn print_count(label: &[u8], tally: &[u64], sort: usize) {
-    if tally.len() <= sort {
-        return;
-    }
     io::write_all(STDOUT_FILENO, label);
-    io::print_decimal(STDOUT_FILENO, tally[sort]);
+    io::print_decimal(STDOUT_FILENO, count(tally, sort));
     io::write_all(STDOUT_FILENO, b"\n");
 }
 
@@ -97,6 +120,9 @@ fn print_states(tally: &[u64]) {
     print_count(b"comparisons ", tally, COMPARISONS);
     print_count(b"reports ", tally, REPORTS);
     print_count(b"actions ", tally, ACTIONS);
+    print_count(b"reconcilings ", tally, RECONCILINGS);
+    print_count(b"addenda ", tally, ADDENDA);
+    print_count(b"joins ", tally, JOINS);
     print_count(b"equalities ", tally, EQUALITIES);
 }
 

@@ -49,9 +49,9 @@ size-by : (a : Bool) (l : Layout) → oversizeIf a l ≡ L.Sound → a ≡ false
 size-by true l h = let z : _≡_ {A = ℕ} 0 1 = cc in absurd (omega arith)
 size-by false l h = refl
 
-sound-size : (s : List ℕ) → bookLayout s ≡ L.Sound → length s ≤ 1048576
+sound-most : (s : List ℕ) → bookLayout s ≡ L.Sound → length s ≤ 1048576
 unfolding bookLayout
-sound-size s h =
+sound-most s h =
     ltb-false 1048576 (length s)
     (size-by (ltb 1048576 (length s))
     (brokenIf (ltb (length s) 24) (oversizeIf (ltb 4096 (eventCount s) || ltb 4096 (rowCount s)) (soundIf (partsOk s)))) h)
@@ -145,7 +145,7 @@ module _ (broker : List BrokerOrderStatus) (small : Small (chosen broker)) where
         let ne : eventCount y ≡ eventCount x + openIntents x = led-count l ∙ omega (arith, led-total l) in
         let nb = length-addendum (chosen broker) (u .time) (recovered x .marks .number) (roundSymbols u x) in
         let ny = sound-size y (l .sound) in
-        let sy = sound-size y (l .sound) in
+        let sy = sound-most y (l .sound) in
         let ky = sound-counts y (l .sound) in
         let ty = uncut-texts l e in
         let nr = uncut-reached in

@@ -1,5 +1,5 @@
--- `replay::read_cases`: the case's number and the cases left add up to the count, so the number fits.
-use Prim.Native.Nat.{_+_}
+-- `replay::read_cases`: fewer cases are left each time.
+use Prim.Native.Nat.{_≤_}
 use mathlib.Core.Path.{_≡_}
 use lib.ListN.{length}
 use borrow.Author.Needs.{needs}
@@ -7,10 +7,10 @@ use Rattle.replay.proofs.read_cases.Statement.{statement}
 use Rattle.replay.proofs.read_cases.Tie as tie
 
 abbrev Inv-loop : tie.InvT-loop
-Inv-loop fd tally₀ count case₀ left₀ tally case left = (length tally ≡ length tally₀) × (case + left ≡ count)
+Inv-loop fd tally₀ count left₀ tally left = (length tally ≡ length tally₀) × (left ≤ count)
 
 abbrev μ-loop : tie.MeasureT-loop
-μ-loop fd tally₀ count case₀ left₀ tally case left = left
+μ-loop fd tally₀ count left₀ tally left = left
 
 loop-holds : tie.Need-loop-holds Inv-loop μ-loop
 loop-holds c = search needs
@@ -23,9 +23,6 @@ same-length c = search needs
 
 returns : tie.Need-returns Inv-loop μ-loop
 returns c = search needs
-
-add-case : tie.Need-add-case Inv-loop μ-loop
-add-case c = search needs
 
 sub-left : tie.Need-sub-left Inv-loop μ-loop
 sub-left c = search needs
@@ -52,7 +49,6 @@ read-cases-spec =
     read-case-requires
     same-length
     returns
-    add-case
     sub-left
     loop-less
     loop-again

@@ -1,0 +1,119 @@
+// Kind 1, sections 16 to 21: the recovered state reconciled, the addendum joined to the book, and what is recovered from the joined book.
+use crate::body;
+use crate::lent;
+use crate::logs;
+use crate::numbers;
+use crate::saved;
+use crate::tally;
+use intents::Reconciling;
+use join::Joining;
+
+// Reconciling into so many bytes.
+fn reconcile(b: &[u8], s: &[u8], out: &mut [u8], bytes: u64) -> Reconciling {
+    let time = wire::signed(body::number_in(b, 5, 1));
+    lent::reconcile_in(
+        s,
+        body::section(b, 2),
+        body::section(b, 3),
+        time,
+        out,
+        bytes,
+    )
+}
+
+// The refusal of reconciling with lent room.
+fn lent_reconciling(b: &[u8], s: &[u8]) -> u64 {
+    let mut out = io::buffer();
+    numbers::reconciling_refusal(reconcile(b, s, &mut out, body::number_in(b, 5, 6)))
+}
+
+// Section 16.
+fn reconciling_numbers(tally: &mut [u64], b: &[u8], lent: u64, r: Reconciling) {
+    let agrees = body::is_four(
+        body::section(b, 16),
+        numbers::reconciling_refusal(r),
+        lent,
+        numbers::entries(r),
+        numbers::unreached(r),
+    );
+    tally::compared(tally, tally::RECONCILINGS, 16, agrees);
+}
+
+// The join of the book and the first k events of an addendum into so many bytes.
+fn join(b: &[u8], addendum: &[u8], out: &mut [u8], bytes: u64) -> Joining {
+    lent::join_in(
+        body::section(b, 1),
+        addendum,
+        body::number_in(b, 5, 2),
+        out,
+        bytes,
+    )
+}
+
+// The refusal of the join with lent room.
+fn lent_joining(b: &[u8], addendum: &[u8]) -> u64 {
+    let mut out = io::large_buffer();
+    numbers::joining_refusal(join(b, addendum, &mut out, body::number_in(b, 5, 7)))
+}
+
+// Section 18.
+fn joining_numbers(tally: &mut [u64], b: &[u8], lent: u64, j: Joining) {
+    let agrees = body::is_three(
+        body::section(b, 18),
+        numbers::joining_refusal(j),
+        lent,
+        numbers::joined_bytes(j) as u64,
+    );
+    tally::compared(tally, tally::JOINS, 18, agrees);
+}
+
+// Section 19.
+fn equality(tally: &mut [u64], b: &[u8], s: &[u8], joined: &[u8], again: &[u8]) {
+    let e = saved::equal(body::section(b, 1), s, joined, again);
+    tally::compared(
+        tally,
+        tally::EQUALITIES,
+        19,
+        numbers::is_equality(body::section(b, 19), e),
+    );
+}
+
+// Sections 20 and 21.
+fn state_bytes(tally: &mut [u64], b: &[u8], again: &[u8]) {
+    tally::bytes(tally, tally::MARKS, b, 20, saved::marks_bytes(again));
+    tally::bytes(tally, tally::ORDERS, b, 21, saved::orders(again));
+}
+
+// Sections 19 to 21. A joined book that is refused leaves zeros, and so differs in section 20.
+fn recovered(tally: &mut [u64], b: &[u8], s: &[u8], joined: &[u8]) {
+    let mut again = io::buffer();
+    saved::recover(joined, logs::now(b), &mut again);
+    equality(tally, b, s, joined, &again);
+    state_bytes(tally, b, &again);
+}
+
+// Sections 18 to 21; the last is 18 where the join is refused.
+fn joined(tally: &mut [u64], b: &[u8], s: &[u8], addendum: &[u8]) {
+    let mut out = io::large_buffer();
+    let j = join(b, addendum, &mut out, 65536);
+    joining_numbers(tally, b, lent_joining(b, addendum), j);
+    if numbers::joining_refusal(j) == 0 {
+        recovered(tally, b, s, wire::part(&out, 0, numbers::joined_bytes(j)));
+    }
+}
+
+// Sections 17 to 21.
+fn added(tally: &mut [u64], b: &[u8], s: &[u8], addendum: &[u8]) {
+    tally::bytes(tally, tally::ADDENDA, b, 17, addendum);
+    joined(tally, b, s, addendum);
+}
+
+// Sections 16 to 21; the last is 16 where reconciling is refused.
+pub fn replay(tally: &mut [u64], b: &[u8], s: &[u8]) {
+    let mut out = io::buffer();
+    let r = reconcile(b, s, &mut out, 65536);
+    reconciling_numbers(tally, b, lent_reconciling(b, s), r);
+    if numbers::reconciling_refusal(r) == 0 {
+        added(tally, b, s, wire::part(&out, 0, numbers::addendum_bytes(r)));
+    }
+}

@@ -1,4 +1,4 @@
--- A lent buffer that the passes fill. No entry's promise cites it.
+-- The sheet that the passes read, and the lent buffer that they fill. No entry's promise cites it.
 -- Assumes nothing.
 use Prim.Native.Nat.{ℕ, zero, suc, _+_, _*_, _/_, _≤_, _<_}
 use mathlib.Core.Path.{_≡_}
@@ -18,6 +18,10 @@ use Rattle.compare.specs.declared.discrepancy.Stored.{Stored}
 use Rattle.compare.specs.declared.discrepancy.Stored.the-variants as S
 use Rattle.compare.specs.declared.passes.Pass.{Pass}
 use Rattle.compare.specs.declared.passes.Pass.the-variants.{Orphans, MissingOrders, Mismatches, Unlisted, Intents, Incomplete}
+
+-- a sheet has all the records that its header claims
+abbrev pub Whole : List ℕ → Type 0
+Whole sheet = 24 + 24 * orderCount sheet + 24 * positionCount sheet ≤ length sheet
 
 -- a buffer of len bytes holds these discrepancies and zeros behind them, or they do not all fit
 abbrev pub Holds : Stored → List Discrepancy → ℕ → List ℕ → Type 0

@@ -6,7 +6,7 @@ ghost use Rattle.records.specs.Record.{orderOf, ordersIn, positionOf, positions
 ghost use Rattle.sheet.specs.Sheet.{sheetOrders, sheetPositions};
 ghost use Rattle.compare.specs.Report.{orphan, missing, mismatch, unlisted, intent, notedIf, unanswered};
 ghost use Rattle.compare.specs.Compare.{lentReport};
-ghost use Rattle.compare.specs.Buffer.{Holds, Adds, passCount, passAt, passOf, markAt};
+ghost use Rattle.compare.specs.Buffer.{Whole, Holds, Adds, passCount, passAt, passOf, markAt};
 use crate::discrepancy;
 use crate::discrepancy::Discrepancy;
 use crate::discrepancy::Noted;
@@ -44,6 +44,7 @@ fn orphan(orders: &[u8], b: BrokerOrderStatus) -> Noted
 
 // The recovered order at a place, where it is submitted, not filled and not listed.
 fn missing(orders: &[u8], at: usize, sheet: &[u8]) -> Noted
+    requires { ⌜ Whole (now sheet) ⌝ }
     ensures { λ r. ⌜ r ≡ missing (sheetOrders (now (sheet .entry))) (orderOf (drop at (now (orders .entry)))) ⌝ }
 {
     if !records::search::unfilled_at(orders, at) {
@@ -73,6 +74,7 @@ fn mismatch(positions: &[u8], b: BrokerPosition) -> Noted
 
 // The recovered position at a place, where the broker has none of its symbol.
 fn unlisted(positions: &[u8], at: usize, sheet: &[u8]) -> Noted
+    requires { ⌜ Whole (now sheet) ⌝ }
     ensures { λ r. ⌜ r ≡ unlisted (sheetPositions (now (sheet .entry))) (positionOf (drop at (now (positions .entry)))) ⌝ }
 {
     let p = records::position::position_at(positions, at);
@@ -157,7 +159,7 @@ fn noted_at(
     positions: &[u8],
     sheet: &[u8],
 ) -> Noted
-    requires { ⌜ i < passCount pass (now orders) (now positions) (now sheet) ⌝ }
+    requires { ⌜ (i < passCount pass (now orders) (now positions) (now sheet)) × Whole (now sheet) ⌝ }
     ensures { λ r. ⌜ r ≡ passAt pass i marks (now (orders .entry)) (now (positions .entry)) (now (sheet .entry)) ⌝ }
 {
     match pass {
@@ -180,6 +182,7 @@ fn run(
     positions: &[u8],
     sheet: &[u8],
 ) -> Stored
+    requires { ⌜ Whole (now sheet) ⌝ }
     ensures { λ r. ⌜ Adds (length (now (out .entry))) (passOf pass marks (now (orders .entry)) (now (positions .entry)) (now (sheet .entry))) stored (now (out .entry)) r (now (out .exit)) ⌝ }
 {
     let Stored::Is(start) = stored else {
@@ -201,6 +204,7 @@ fn run(
 
 // The passes of document 01, in its order, each behind what the ones before it reported.
 pub fn report(out: &mut [u8], marks: Marks, orders: &[u8], positions: &[u8], sheet: &[u8]) -> Stored
+    requires { ⌜ Whole (now sheet) ⌝ }
     ensures { λ r. ⌜ Holds r (lentReport marks (now (orders .entry)) (now (positions .entry)) (now (sheet .entry))) (length (now (out .entry))) (now (out .exit)) ⌝ }
 {
     wire::clear(out);

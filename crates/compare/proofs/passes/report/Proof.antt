@@ -30,10 +30,23 @@ run-requires-4 : tie.Need-run-requires-4
 run-requires-4 c κs = search needs
 
 run-requires-5 : tie.Need-run-requires-5
-run-requires-5 c κs = search needs
+run-requires-5 c κs =
+    let s4 = c .before .before .before in
+    let s3 = s4 .before .before .before .before in
+    let s2 = s3 .before .before .before .before in
+    let s1 = s2 .before .before .before .before in
+    let s0 = s1 .before .before .before .before in
+    s0 .before .before .before .before .before .before .pre
 
 run-requires-6 : tie.Need-run-requires-6
-run-requires-6 c κs = search needs
+run-requires-6 c κs =
+    let s5 = c .before .before .before in
+    let s4 = s5 .before .before .before .before in
+    let s3 = s4 .before .before .before .before in
+    let s2 = s3 .before .before .before .before in
+    let s1 = s2 .before .before .before .before in
+    let s0 = s1 .before .before .before .before in
+    s0 .before .before .before .before .before .before .pre
 
 same-length : tie.Need-same-length
 same-length c =

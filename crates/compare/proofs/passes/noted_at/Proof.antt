@@ -35,7 +35,10 @@ mul-missing c =
     omega (arith, h, c .before .before .before .before .before .good)
 
 missing-requires : tie.Need-missing-requires
-missing-requires c κs = search needs
+missing-requires c κs =
+    let p = c .before .before .before .before .before .pre in
+    let h = rw (c .enum-told2 .given .1) at (p .0) in
+    (omega (arith, h), p .1)
 
 enum-told-3 : tie.Need-enum-told-3
 enum-told-3 c = search needs
@@ -61,7 +64,10 @@ mul-unlisted c =
     omega (arith, h, c .before .before .before .before .before .good)
 
 unlisted-requires : tie.Need-unlisted-requires
-unlisted-requires c κs = search needs
+unlisted-requires c κs =
+    let p = c .before .before .before .before .before .pre in
+    let h = rw (c .enum-told4 .given .1) at (p .0) in
+    (omega (arith, h), p .1)
 
 enum-told-5 : tie.Need-enum-told-5
 enum-told-5 c = search needs

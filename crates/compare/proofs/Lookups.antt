@@ -1,4 +1,4 @@
--- What one record adds: the quantity that is expected of a symbol, an open intent, the last mark.
+-- What one record adds: the quantity that is expected of a symbol, an open intent, the last mark. And what a sound layout says of the sheet's.
 -- Assumes nothing.
 use Prim.Native.Nat.{ℕ, zero, suc, _+_, _*_, _≤_, _<_}
 use mathlib.Core.Path.{_≡_, refl, ap}
@@ -7,6 +7,9 @@ use mathlib.Core.Bool.{true, false}
 use native.Mathlib.Omega.{arith}
 use lib.ListN.{drop}
 use Rattle.wire.specs.Table.{records}
+use Rattle.wire.specs.Layout.{bothOf}
+use Rattle.wire.specs.declared.layout.Layout.{Layout}
+use Rattle.wire.specs.declared.layout.Layout.the-variants as L
 use Rattle.symbol.specs.declared.Symbol.{Symbol}
 use Rattle.cell.specs.declared.TextRef.{TextRef}
 use Rattle.cell.specs.declared.AsStr.{AsStr}
@@ -15,11 +18,11 @@ use Rattle.records.specs.Record.{positionOf}
 use Rattle.records.specs.Search.{holds, isIntent}
 use Rattle.records.specs.declared.order.Order.{Order}
 use Rattle.records.proofs.Walk.{rest, rest-all, rest-next, rest-none}
-use Rattle.marks.specs.declared.Marks.{Marks}
-use Rattle.compare.specs.Report.{notedIf, expectedOf, intentWith, unanswered}
+use Rattle.compare.specs.Report.{notedIf, expectedOf, intentWith}
 use Rattle.compare.specs.Buffer.{markAt}
 use Rattle.compare.specs.declared.discrepancy.Discrepancy.the-variants.{IncompleteIntent, IncompleteCancelIntent}
 use Rattle.compare.specs.declared.discrepancy.Noted.the-variants.{Is, Nothing}
+use Rattle.compare.specs.declared.passes.Unanswered.{Unanswered}
 use Rattle.compare.specs.declared.search.Expected.the-variants as E
 
 module _ (y : Symbol) (n : ℕ) (s : List ℕ) where
@@ -49,8 +52,16 @@ pub an-intent : (o : Order) (t : AsStr) (r : TextRef) → t ≡ Str.Is r → isI
 an-intent o t r e h = rw (e, h)
 
 -- the fourth mark
-pub mark-last : (m : Marks) (i : ℕ) → 3 ≤ i → markAt m i ≡ notedIf (unanswered (m .cancel)) IncompleteCancelIntent
-mark-last m zero h = absurd (omega arith)
-mark-last m (suc zero) h = absurd (omega arith)
-mark-last m (suc (suc zero)) h = absurd (omega arith)
-mark-last m (suc (suc (suc i))) h = refl
+pub mark-last : (u : Unanswered) (i : ℕ) → 3 ≤ i → markAt u i ≡ notedIf (u .cancel) IncompleteCancelIntent
+mark-last u zero h = absurd (omega arith)
+mark-last u (suc zero) h = absurd (omega arith)
+mark-last u (suc (suc zero)) h = absurd (omega arith)
+mark-last u (suc (suc (suc i))) h = refl
+
+-- two layouts that are sound together: so is the first
+pub first-sound : (a b : Layout) → bothOf a b ≡ L.Sound → a ≡ L.Sound
+first-sound L.Sound b e = refl
+first-sound L.Oversize b e = e
+first-sound L.Broken L.Sound e = e
+first-sound L.Broken L.Oversize e = let z : _≡_ {A = ℕ} 0 1 = cc in absurd (omega arith)
+first-sound L.Broken L.Broken e = e

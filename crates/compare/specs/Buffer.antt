@@ -1,14 +1,14 @@
--- A lent buffer that the passes fill. No entry's promise cites it.
+-- The sheet that the passes read, and the lent buffer that they fill. No entry's promise cites it.
 -- Assumes nothing.
 use Prim.Native.Nat.{ℕ, zero, suc, _+_, _*_, _/_, _≤_, _<_}
 use mathlib.Core.Path.{_≡_}
-use mathlib.Core.List.{List, _++_}
+use mathlib.Core.List.{List, [], _∷_, _++_}
 use lib.ListN.{length, drop}
 use Rattle.wire.specs.Table.{encoded, padded}
 use Rattle.records.specs.Record.{orderOf, ordersIn, positionOf, positionsIn}
 use Rattle.sheet.specs.Sheet.{orderCount, positionCount, brokerOrderOf, brokerPositionOf, sheetOrders, sheetPositions}
 use Rattle.marks.specs.declared.Marks.{Marks}
-use Rattle.compare.specs.Report.{pass, orphan, missing, mismatch, unlisted, intent, notedIf, unanswered, incomplete, discrepancyBytes}
+use Rattle.compare.specs.Report.{pass, orphan, missing, mismatch, unlisted, intent, notedIf, unanswered, discrepancyBytes}
 use Rattle.compare.specs.Compare.{fittingReport, bytesIf}
 use Rattle.compare.specs.declared.Comparison.{Comparison}
 use Rattle.compare.specs.declared.discrepancy.Discrepancy.{Discrepancy}
@@ -16,8 +16,13 @@ use Rattle.compare.specs.declared.discrepancy.Discrepancy.the-variants.{
 use Rattle.compare.specs.declared.discrepancy.Noted.{Noted}
 use Rattle.compare.specs.declared.discrepancy.Stored.{Stored}
 use Rattle.compare.specs.declared.discrepancy.Stored.the-variants as S
+use Rattle.compare.specs.declared.passes.Unanswered.{Unanswered}
 use Rattle.compare.specs.declared.passes.Pass.{Pass}
 use Rattle.compare.specs.declared.passes.Pass.the-variants.{Orphans, MissingOrders, Mismatches, Unlisted, Intents, Incomplete}
+
+-- a sheet has all the records that its header claims
+abbrev pub Whole : List ℕ → Type 0
+Whole sheet = 24 + 24 * orderCount sheet + 24 * positionCount sheet ≤ length sheet
 
 -- a buffer of len bytes holds these discrepancies and zeros behind them, or they do not all fit
 abbrev pub Holds : Stored → List Discrepancy → ℕ → List ℕ → Type 0
@@ -42,25 +47,38 @@ passCount Unlisted orders positions sheet = length positions / 32
 passCount Intents orders positions sheet = length orders / 64
 passCount Incomplete orders positions sheet = 4
 
-abbrev pub markAt : Marks → ℕ → Noted
-markAt m zero = notedIf (unanswered (m .positions)) IncompletePositionsIntent
-markAt m (suc zero) = notedIf (unanswered (m .quotes)) IncompleteQuotesIntent
-markAt m (suc (suc zero)) = notedIf (unanswered (m .account)) IncompleteAccountSummaryIntent
-markAt m (suc (suc (suc i))) = notedIf (unanswered (m .cancel)) IncompleteCancelIntent
+-- the marks by what the passes ask of them
+abbrev pub unansweredOf : Marks → Unanswered
+unansweredOf m =
+    record {
+      positions = unanswered (m .positions);
+      quotes = unanswered (m .quotes);
+      account = unanswered (m .account);
+      cancel = unanswered (m .cancel);
+    }
 
-abbrev pub passAt : Pass → ℕ → Marks → List ℕ → List ℕ → List ℕ → Noted
-passAt Orphans i m orders positions sheet = orphan (ordersIn orders) (brokerOrderOf (drop (24 + 24 * i) sheet))
-passAt MissingOrders i m orders positions sheet = missing (sheetOrders sheet) (orderOf (drop (64 * i) orders))
-passAt Mismatches i m orders positions sheet =
+abbrev pub markAt : Unanswered → ℕ → Noted
+markAt u zero = notedIf (u .positions) IncompletePositionsIntent
+markAt u (suc zero) = notedIf (u .quotes) IncompleteQuotesIntent
+markAt u (suc (suc zero)) = notedIf (u .account) IncompleteAccountSummaryIntent
+markAt u (suc (suc (suc i))) = notedIf (u .cancel) IncompleteCancelIntent
+
+abbrev pub allMarks : Unanswered → List Noted
+allMarks u = markAt u 0 ∷ markAt u 1 ∷ markAt u 2 ∷ markAt u 3 ∷ []
+
+abbrev pub passAt : Pass → ℕ → Unanswered → List ℕ → List ℕ → List ℕ → Noted
+passAt Orphans i u orders positions sheet = orphan (ordersIn orders) (brokerOrderOf (drop (24 + 24 * i) sheet))
+passAt MissingOrders i u orders positions sheet = missing (sheetOrders sheet) (orderOf (drop (64 * i) orders))
+passAt Mismatches i u orders positions sheet =
     mismatch (positionsIn positions) (brokerPositionOf (drop (24 + 24 * orderCount sheet + 24 * i) sheet))
-passAt Unlisted i m orders positions sheet = unlisted (sheetPositions sheet) (positionOf (drop (32 * i) positions))
-passAt Intents i m orders positions sheet = intent (orderOf (drop (64 * i) orders))
-passAt Incomplete i m orders positions sheet = markAt m i
+passAt Unlisted i u orders positions sheet = unlisted (sheetPositions sheet) (positionOf (drop (32 * i) positions))
+passAt Intents i u orders positions sheet = intent (orderOf (drop (64 * i) orders))
+passAt Incomplete i u orders positions sheet = markAt u i
 
-abbrev pub passOf : Pass → Marks → List ℕ → List ℕ → List ℕ → List Discrepancy
-passOf Orphans m orders positions sheet = pass (orphan (ordersIn orders)) (sheetOrders sheet)
-passOf MissingOrders m orders positions sheet = pass (missing (sheetOrders sheet)) (ordersIn orders)
-passOf Mismatches m orders positions sheet = pass (mismatch (positionsIn positions)) (sheetPositions sheet)
-passOf Unlisted m orders positions sheet = pass (unlisted (sheetPositions sheet)) (positionsIn positions)
-passOf Intents m orders positions sheet = pass intent (ordersIn orders)
-passOf Incomplete m orders positions sheet = pass (λ (x : Noted). x) (incomplete m)
+abbrev pub passOf : Pass → Unanswered → List ℕ → List ℕ → List ℕ → List Discrepancy
+passOf Orphans u orders positions sheet = pass (orphan (ordersIn orders)) (sheetOrders sheet)
+passOf MissingOrders u orders positions sheet = pass (missing (sheetOrders sheet)) (ordersIn orders)
+passOf Mismatches u orders positions sheet = pass (mismatch (positionsIn positions)) (sheetPositions sheet)
+passOf Unlisted u orders positions sheet = pass (unlisted (sheetPositions sheet)) (positionsIn positions)
+passOf Intents u orders positions sheet = pass intent (ordersIn orders)
+passOf Incomplete u orders positions sheet = pass (λ (x : Noted). x) (allMarks u)

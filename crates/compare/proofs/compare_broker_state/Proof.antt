@@ -2,9 +2,13 @@
 use borrow.Author.Needs.{needs}
 use mathlib.Core.Path.{_≡_, refl, sym, _∙_}
 use denote.Ref.{now}
+use native.Mathlib.Nat.{le-of-eq}
 use lib.ListN.{length}
+use Rattle.sheet.specs.Sheet.{sheetLayout}
+use Rattle.sheet.proofs.Lists.{sound-sheet}
 use Rattle.compare.specs.Compare.{lentReport, lentLayout, comparison, reportOut}
 use Rattle.compare.proofs.Adding.{answers-at}
+use Rattle.compare.proofs.Lookups.{first-sound}
 use Rattle.compare.proofs.compare_broker_state.Statement.{statement}
 use Rattle.compare.proofs.compare_broker_state.Tie as tie
 
@@ -34,7 +38,10 @@ enum-told : tie.Need-enum-told
 enum-told c = search needs
 
 report-requires : tie.Need-report-requires
-report-requires c κs = search needs
+report-requires c κs =
+    let b = c .before .before .before in
+    let s = now (b .before .before .before .before .before .before .before .before .before .args .sheet) in
+    le-of-eq (sym (sound-sheet s (first-sound (sheetLayout s) _ (sym (the-layout b) ∙ c .before .enum-told .given .1)) .size))
 
 answered-requires : tie.Need-answered-requires
 answered-requires c κs = search needs

@@ -17,7 +17,7 @@ enum-told c = search needs
 cast-order-at : tie.Need-cast-order-at
 cast-order-at c =
     let s = now (c .before .before .before .before .before .args .sheet) in
-    let h = rw (c .enum-told .given .1) at (c .before .before .before .before .before .pre) in
+    let h = rw (c .enum-told .given .1) at (c .before .before .before .before .before .pre .0) in
     omega (arith, h, le-lt 4 s (bytes-of s (c .before .before .shared-slice-known3 .given)))
 
 order-at-requires : tie.Need-order-at-requires
@@ -31,11 +31,14 @@ enum-told-2 c = search needs
 
 mul-missing : tie.Need-mul-missing
 mul-missing c =
-    let h = rw (c .enum-told2 .given .1) at (c .before .before .before .before .before .pre) in
+    let h = rw (c .enum-told2 .given .1) at (c .before .before .before .before .before .pre .0) in
     omega (arith, h, c .before .before .before .before .before .good)
 
 missing-requires : tie.Need-missing-requires
-missing-requires c κs = search needs
+missing-requires c κs =
+    let p = c .before .before .before .before .before .pre in
+    let h = rw (c .enum-told2 .given .1) at (p .0) in
+    (omega (arith, h), p .1)
 
 enum-told-3 : tie.Need-enum-told-3
 enum-told-3 c = search needs
@@ -43,7 +46,7 @@ enum-told-3 c = search needs
 cast-position-at : tie.Need-cast-position-at
 cast-position-at c =
     let s = now (c .before .before .before .before .before .args .sheet) in
-    let h = rw (c .enum-told3 .given .1) at (c .before .before .before .before .before .pre) in
+    let h = rw (c .enum-told3 .given .1) at (c .before .before .before .before .before .pre .0) in
     omega (arith, h, le-lt 4 (drop 8 s) (bytes-drop 8 s (bytes-of s (c .before .before .shared-slice-known3 .given))))
 
 position-at-requires : tie.Need-position-at-requires
@@ -57,18 +60,21 @@ enum-told-4 c = search needs
 
 mul-unlisted : tie.Need-mul-unlisted
 mul-unlisted c =
-    let h = rw (c .enum-told4 .given .1) at (c .before .before .before .before .before .pre) in
+    let h = rw (c .enum-told4 .given .1) at (c .before .before .before .before .before .pre .0) in
     omega (arith, h, c .before .before .before .before .before .good)
 
 unlisted-requires : tie.Need-unlisted-requires
-unlisted-requires c κs = search needs
+unlisted-requires c κs =
+    let p = c .before .before .before .before .before .pre in
+    let h = rw (c .enum-told4 .given .1) at (p .0) in
+    (omega (arith, h), p .1)
 
 enum-told-5 : tie.Need-enum-told-5
 enum-told-5 c = search needs
 
 mul-intent : tie.Need-mul-intent
 mul-intent c =
-    let h = rw (c .enum-told5 .given .1) at (c .before .before .before .before .before .pre) in
+    let h = rw (c .enum-told5 .given .1) at (c .before .before .before .before .before .pre .0) in
     omega (arith, h, c .before .before .before .before .before .good)
 
 intent-requires : tie.Need-intent-requires

@@ -1,6 +1,6 @@
 -- `passes::report`: each pass behind those before it.
 use borrow.Author.Needs.{needs}
-use mathlib.Core.Path.{_∙_}
+use mathlib.Core.Path.{subst, _∙_}
 use mathlib.Core.List.{List, [], _++_}
 use denote.Ref.{now}
 use lib.ListN.{length}
@@ -8,11 +8,15 @@ use Rattle.compare.specs.Report.{report}
 use Rattle.compare.specs.Buffer.{Holds, passOf}
 use Rattle.compare.specs.declared.discrepancy.Discrepancy.{Discrepancy}
 use Rattle.compare.specs.declared.discrepancy.Stored.the-variants as S
+use Rattle.compare.specs.declared.passes.Unanswered.{Unanswered}
 use Rattle.compare.specs.declared.passes.Pass.{Pass}
 use Rattle.compare.specs.declared.passes.Pass.the-variants.{Orphans, MissingOrders, Mismatches, Unlisted, Intents, Incomplete}
 use Rattle.compare.proofs.Adding.{holds-none, holds-more}
 use Rattle.compare.proofs.passes.report.Statement.{statement}
 use Rattle.compare.proofs.passes.report.Tie as tie
+
+unanswered-of-requires : tie.Need-unanswered-of-requires
+unanswered-of-requires c κs = search needs
 
 clear-requires : tie.Need-clear-requires
 clear-requires c κs = search needs
@@ -30,10 +34,23 @@ run-requires-4 : tie.Need-run-requires-4
 run-requires-4 c κs = search needs
 
 run-requires-5 : tie.Need-run-requires-5
-run-requires-5 c κs = search needs
+run-requires-5 c κs =
+    let s4 = c .before .before .before in
+    let s3 = s4 .before .before .before .before in
+    let s2 = s3 .before .before .before .before in
+    let s1 = s2 .before .before .before .before in
+    let s0 = s1 .before .before .before .before in
+    s0 .before .before .before .before .before .before .before .pre
 
 run-requires-6 : tie.Need-run-requires-6
-run-requires-6 c κs = search needs
+run-requires-6 c κs =
+    let s5 = c .before .before .before in
+    let s4 = s5 .before .before .before .before in
+    let s3 = s4 .before .before .before .before in
+    let s2 = s3 .before .before .before .before in
+    let s1 = s2 .before .before .before .before in
+    let s0 = s1 .before .before .before .before in
+    s0 .before .before .before .before .before .before .before .pre
 
 same-length : tie.Need-same-length
 same-length c =
@@ -56,9 +73,11 @@ returns c =
     let s2 = s3 .before .before .before .before in
     let s1 = s2 .before .before .before .before in
     let s0 = s1 .before .before .before .before in
-    let a = s0 .before .before .before .before .before .before .args in
+    let a = s0 .before .before .before .before .before .before .before .args in
     let len = length (now (a .out)) in
-    let of : Pass → List Discrepancy = λ p. passOf p (a .marks) (now (a .orders)) (now (a .positions)) (now (a .sheet)) in
+    let u = s0 .before .before .unanswered-of in
+    let from : Unanswered → Pass → List Discrepancy = λ v p. passOf p v (now (a .orders)) (now (a .positions)) (now (a .sheet)) in
+    let of : Pass → List Discrepancy = from (u .result) in
     let r0 = s0 .clear in
     let r1 = s1 .run in
     let r2 = s2 .run2 in
@@ -80,12 +99,14 @@ returns c =
     let h3 = holds-more len x2 (of Mismatches) (r2 .result) (r3 .result) (r2 .last .0) (r3 .last .0) k3 (r3 .ensures) h2 in
     let h4 = holds-more len x3 (of Unlisted) (r3 .result) (r4 .result) (r3 .last .0) (r4 .last .0) k4 (r4 .ensures) h3 in
     let h5 = holds-more len x4 (of Intents) (r4 .result) (r5 .result) (r4 .last .0) (r5 .last .0) k5 (r5 .ensures) h4 in
-    holds-more len (x4 ++ of Intents) (of Incomplete) (r5 .result) (r6 .result) (r5 .last .0) (r6 .last .0) k6 (r6 .ensures) h5
+    subst (λ (v : Unanswered). Holds (r6 .result) (x4 ++ of Intents ++ from v Incomplete) len (r6 .last .0)) (u .ensures)
+    (holds-more len (x4 ++ of Intents) (of Incomplete) (r5 .result) (r6 .result) (r5 .last .0) (r6 .last .0) k6 (r6 .ensures) h5)
 
 pub report-spec : {M : Type 1} → statement M
 report-spec =
     tie.close
     (tie.spec
+    unanswered-of-requires
     clear-requires
     run-requires
     run-requires-2

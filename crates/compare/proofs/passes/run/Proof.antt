@@ -14,13 +14,13 @@ use Rattle.compare.proofs.passes.run.Statement.{statement}
 use Rattle.compare.proofs.passes.run.Tie as tie
 
 abbrev Inv-loop : tie.InvT-loop
-Inv-loop out₀ pass marks orders positions sheet start m n₀ i₀ out n i =
+Inv-loop out₀ pass queries orders positions sheet start m n₀ i₀ out n i =
     (length out ≡ length out₀)
-    × ((r : Stored) (e : List ℕ) → Adds (length out₀) (passFrom marks orders positions sheet pass i) (S.Is n) out r e
-    → Adds (length out₀) (passOf pass marks orders positions sheet) (S.Is start) out₀ r e)
+    × ((r : Stored) (e : List ℕ) → Adds (length out₀) (passFrom queries orders positions sheet pass i) (S.Is n) out r e
+    → Adds (length out₀) (passOf pass queries orders positions sheet) (S.Is start) out₀ r e)
 
 abbrev μ-loop : tie.MeasureT-loop
-μ-loop out₀ pass marks orders positions sheet start m n₀ i₀ out n i = m - i
+μ-loop out₀ pass queries orders positions sheet start m n₀ i₀ out n i = m - i
 
 enum-known-stored : tie.Need-enum-known-stored Inv-loop μ-loop
 enum-known-stored c = search needs
@@ -39,7 +39,7 @@ count-requires c κs = search needs
 loop-holds : tie.Need-loop-holds Inv-loop μ-loop
 loop-holds c =
     let a = c .before .before .before .before .before .before .before .before .args in
-    (refl, λ r e p. rw (pass-all (a .marks) (now (a .orders)) (now (a .positions)) (now (a .sheet)) (a .pass)) p)
+    (refl, λ r e p. rw (pass-all (a .queries) (now (a .orders)) (now (a .positions)) (now (a .sheet)) (a .pass)) p)
 
 noted-at-requires : tie.Need-noted-at-requires Inv-loop μ-loop
 noted-at-requires c κs = search needs
@@ -61,9 +61,9 @@ returns-2 c =
     let a = c .before .before .before .before .before .before .before .before .before .before .before .before .before .before .before .before .before .args in
     let l = c .before .before .before .before .before .before .before .before .loop in
     let x = c .before .before .before .before .before .noted-at in
-    let from = passFrom (a .marks) (now (a .orders)) (now (a .positions)) (now (a .sheet)) (a .pass) in
+    let from = passFrom (a .queries) (now (a .orders)) (now (a .positions)) (now (a .sheet)) (a .pass) in
     let h : l .i < passCount (a .pass) (now (a .orders)) (now (a .positions)) (now (a .sheet)) = rw (← c .before .before .before .before .before .before .before .before .before .count .ensures) (c .before .before .before .before .before .before .before .loop-test .taken) in
-    let z = pass-noted (a .marks) (now (a .orders)) (now (a .positions)) (now (a .sheet)) (a .pass) (l .i) h (x .result) (x .ensures) in
+    let z = pass-noted (a .queries) (now (a .orders)) (now (a .positions)) (now (a .sheet)) (a .pass) (l .i) h (x .result) (x .ensures) in
     let r = c .before .before .before .before .note in
     rw (c .before .before .before .before .before .before .before .before .before .before .before .stored .given .1)
     (l .inv .1 S.Full (r .last .0)
@@ -80,9 +80,9 @@ loop-again c =
     let a = c .before .before .before .before .before .before .before .before .before .before .before .before .before .before .before .before .before .before .args in
     let l = c .before .before .before .before .before .before .before .before .before .loop in
     let x = c .before .before .before .before .before .before .noted-at in
-    let from = passFrom (a .marks) (now (a .orders)) (now (a .positions)) (now (a .sheet)) (a .pass) in
+    let from = passFrom (a .queries) (now (a .orders)) (now (a .positions)) (now (a .sheet)) (a .pass) in
     let h : l .i < passCount (a .pass) (now (a .orders)) (now (a .positions)) (now (a .sheet)) = rw (← c .before .before .before .before .before .before .before .before .before .before .count .ensures) (c .before .before .before .before .before .before .before .before .loop-test .taken) in
-    let z = pass-noted (a .marks) (now (a .orders)) (now (a .positions)) (now (a .sheet)) (a .pass) (l .i) h (x .result) (x .ensures) in
+    let z = pass-noted (a .queries) (now (a .orders)) (now (a .positions)) (now (a .sheet)) (a .pass) (l .i) h (x .result) (x .ensures) in
     let r = c .before .before .before .before .before .note in (
       r .kept .0 ∙ l .inv .0,
       λ t e p. l .inv .1 t e
@@ -97,7 +97,7 @@ returns-3 c =
     let a = c .before .before .before .before .before .before .before .before .before .before .args in
     let l = c .before .loop in
     let h : passCount (a .pass) (now (a .orders)) (now (a .positions)) (now (a .sheet)) ≤ l .i = rw (← c .before .before .count .ensures) (c .loop-test .left) in
-    let z = pass-end (a .marks) (now (a .orders)) (now (a .positions)) (now (a .sheet)) (a .pass) (l .i) h in
+    let z = pass-end (a .queries) (now (a .orders)) (now (a .positions)) (now (a .sheet)) (a .pass) (l .i) h in
     rw (c .before .before .before .before .stored .given .1) (l .inv .1 (S.Is (l .n)) (l .out) (rw z (adds-none (length (now (a .out))) (l .n) (l .out))))
 
 pub run-spec : {M : Type 1} → statement M

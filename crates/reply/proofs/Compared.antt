@@ -1,11 +1,12 @@
--- A comparison that is done: how many discrepancies it counts, and what the report's bytes are read as. About no function.
+-- A comparison that is done: how many discrepancies it counts, what the report's bytes are read as, and that a longer buffer gives the same.
+-- About no function.
 -- Assumes nothing.
-use Prim.Native.Nat.{ℕ, _*_, _≤_}
-use mathlib.Core.Path.{_≡_, refl, sym, ap}
+use Prim.Native.Nat.{ℕ, _*_, _≤_, _<_}
+use mathlib.Core.Path.{_≡_, refl, sym, ap, subst, _∙_}
 use mathlib.Core.List.{List, map}
 use mathlib.Core.Bool.{Bool, true, false}
 use native.Mathlib.Omega.{arith}
-use borrow.Author.Tests.{leb-true}
+use borrow.Author.Tests.{le-leb, leb-true}
 use lib.Dec.{leb}
 use lib.ListN.{length}
 use Rattle.wire.specs.Le.{le}
@@ -54,3 +55,20 @@ module _ (m : Marks) (orders positions sheet : List ℕ) (len : ℕ) (x : Compar
   pub done-kinds : records (le 4) 48 (x .count) (reportOut m orders positions sheet len) ≡ map discrepancyKind (lentReport m orders positions sheet)
   unfolding reportOut
   done-kinds = rw (e, done-count) (kinds-held len (lentReport m orders positions sheet))
+
+-- ---- a longer buffer
+same : (l : Layout) (a b : Bool) (xs : List Discrepancy) → (a ≡ true → b ≡ true) → comparisonNumber (refusedOr l (doneIf a xs)) < 3
+    → refusedOr l (doneIf b xs) ≡ refusedOr l (doneIf a xs)
+same L.Sound true b xs f h = rw (f refl)
+same L.Sound false b xs f h = absurd (omega arith)
+same L.Oversize a b xs f h = refl
+same L.Broken a b xs f h = refl
+
+pub compared-longer : (m : Marks) (orders positions sheet : List ℕ) (len longer : ℕ) → len ≤ longer → (x : Comparison)
+    → comparison m orders positions sheet len ≡ x → comparisonNumber x < 3 → comparison m orders positions sheet longer ≡ x
+unfolding comparison
+compared-longer m orders positions sheet len longer h x e k =
+    let xs = lentReport m orders positions sheet in
+    let n = 48 * length xs in
+    same (lentLayout orders positions sheet) (leb n len) (leb n longer) xs (λ q. le-leb n longer (omega (arith, leb-true n len q)))
+    (subst (λ (y : Comparison). comparisonNumber y < 3) (sym e) k) ∙ e

@@ -5,14 +5,17 @@ mod text;
 
 ghost use mathlib.Core.Path.{_≡_};
 ghost use mathlib.Core.List.{_++_};
-ghost use Prim.Native.Nat.{_<_};
-ghost use lib.ListN.{length};
+ghost use mathlib.Core.Bool.{false, _&&_};
+ghost use Prim.Native.Nat.{_≤_, _<_};
+ghost use lib.Dec.{eqb};
+ghost use lib.ListN.{length, replicate};
 ghost use lib.Seq.{sets};
 ghost use Rattle.wire.specs.Le.{le};
 ghost use Rattle.wire.specs.Table.{records};
 ghost use Rattle.book.specs.Layout.{bookLayout};
 ghost use Rattle.sheet.specs.Sheet.{sheetLayout};
 ghost use Rattle.reply.specs.Text.{recoveredLines, reportLines};
+ghost use Rattle.reply.specs.Buffer.{Puts};
 ghost use Rattle.reply.specs.Reply.{fileLayout, firstRefusal, filesLayout, lentText, bookText, replyText, replied, replyOut};
 use audit::validate::Verdict;
 use compare::Comparison;
@@ -72,7 +75,7 @@ fn put_lines(d: &mut [u8], v: Verdict, r: Recovered, report: &[u8], count: usize
     n + text::put_report(d, n, report, count)
 }
 
-// The lines of a recovery with its orders and positions, or a refusal's.
+// The lines of a recovery with its orders and positions, or a refusal's, by a buffer for the report.
 fn put_compared(
     d: &mut [u8],
     v: Verdict,
@@ -80,45 +83,92 @@ fn put_compared(
     orders: &[u8],
     positions: &[u8],
     sheet: &[u8],
-) -> usize
-    ensures { λ x. ⌜ (x ≡ length (lentText v r (now (orders .entry)) (now (positions .entry)) (now (sheet .entry)))) × (now (d .exit) ≡ sets (now (d .entry)) 0 (lentText v r (now (orders .entry)) (now (positions .entry)) (now (sheet .entry)))) ⌝ }
+    report: &mut [u8],
+) -> Replied
+    requires { ⌜ length (now report) ≤ 65536 ⌝ }
+    ensures { λ x. ⌜ Puts x (eqb (length (now (report .entry))) 65536) (lentText v r (now (orders .entry)) (now (positions .entry)) (now (sheet .entry))) (now (d .entry)) (now (d .exit)) ⌝ }
 {
-    let mut report = [0u8; 65536];
     let marks = r.marks;
-    match compare::compare_broker_state(marks, orders, positions, sheet, &mut report) {
+    match compare::compare_broker_state(marks, orders, positions, sheet, report) {
         Comparison::Done(c) => {
             let count = c.count;
-            put_lines(d, v, r, &report, count)
+            Replied::Done(put_lines(d, v, r, report, count))
         }
-        Comparison::Oversize => text::put_refused(d, 1),
-        Comparison::Broken => text::put_refused(d, 2),
-        Comparison::NoRoom => text::put_refused(d, 3),
+        Comparison::Oversize => Replied::Done(text::put_refused(d, 1)),
+        Comparison::Broken => Replied::Done(text::put_refused(d, 2)),
+        Comparison::NoRoom => Replied::NoRoom,
     }
 }
 
-// The lines of a book and a sheet, or a refusal's.
-fn put_book(d: &mut [u8], book: &[u8], sheet: &[u8]) -> usize
-    ensures { λ x. ⌜ (x ≡ length (bookText (now (book .entry)) (now (sheet .entry)))) × (now (d .exit) ≡ sets (now (d .entry)) 0 (bookText (now (book .entry)) (now (sheet .entry)))) ⌝ }
+// The lines of a sound book and a sheet, or a refusal's, by buffers for the orders and the positions, which are zero, and the report.
+fn put_book_in(
+    d: &mut [u8],
+    book: &[u8],
+    sheet: &[u8],
+    orders: &mut [u8],
+    positions: &mut [u8],
+    report: &mut [u8],
+) -> Replied
+    requires { ⌜ (bookLayout (now book) ≡ Layout.Sound) × (now orders ≡ replicate (length (now orders)) 0) × (now positions ≡ replicate (length (now positions)) 0) ⌝ ∗ ⌜ (length (now orders) ≤ 65536) × (length (now positions) ≤ 65536) × (length (now report) ≤ 65536) ⌝ }
+    ensures { λ x. ⌜ Puts x (eqb (length (now (orders .entry))) 65536 && eqb (length (now (positions .entry))) 65536 && eqb (length (now (report .entry))) 65536) (bookText (now (book .entry)) (now (sheet .entry))) (now (d .entry)) (now (d .exit)) ⌝ }
 {
-    let mut orders = [0u8; 65536];
-    let mut positions = [0u8; 65536];
-    match recovery::recover::reconstruct_state(book, 0, &mut orders, &mut positions) {
+    match recovery::recover::recover(book, 0, orders, positions) {
         Recovery::Done(r) => {
             let n = 64 * (r.orders as usize);
             let m = 32 * (r.positions as usize);
-            let v = audit::validate::validate_checkpoints_from_parsed(book);
+            let v = audit::validate::validate_sound(book);
             put_compared(
                 d,
                 v,
                 r,
-                wire::part(&orders, 0, n),
-                wire::part(&positions, 0, m),
+                wire::part(orders, 0, n),
+                wire::part(positions, 0, m),
                 sheet,
+                report,
             )
         }
-        Recovery::Oversize => text::put_refused(d, 1),
-        Recovery::Broken => text::put_refused(d, 2),
-        Recovery::NoRoom => text::put_refused(d, 3),
+        Recovery::Oversize => Replied::NoRoom,
+        Recovery::Broken => Replied::NoRoom,
+        Recovery::NoRoom => Replied::NoRoom,
+    }
+}
+
+// The same by short buffers, which take what most logs give.
+fn put_short(d: &mut [u8], book: &[u8], sheet: &[u8]) -> Replied
+    requires { ⌜ bookLayout (now book) ≡ Layout.Sound ⌝ }
+    ensures { λ x. ⌜ Puts x false (bookText (now (book .entry)) (now (sheet .entry))) (now (d .entry)) (now (d .exit)) ⌝ }
+{
+    let mut orders = [0u8; 4096];
+    let mut positions = [0u8; 2048];
+    let mut report = [0u8; 4096];
+    put_book_in(d, book, sheet, &mut orders, &mut positions, &mut report)
+}
+
+// The same by buffers of the size that the desk lends: one that is too short is refusal 3.
+fn put_long(d: &mut [u8], book: &[u8], sheet: &[u8]) -> usize
+    requires { ⌜ bookLayout (now book) ≡ Layout.Sound ⌝ }
+    ensures { λ x. ⌜ (x ≡ length (bookText (now (book .entry)) (now (sheet .entry)))) × (now (d .exit) ≡ sets (now (d .entry)) 0 (bookText (now (book .entry)) (now (sheet .entry)))) ⌝ }
+{
+    let mut orders = [0u8; 65536];
+    let mut positions = [0u8; 65536];
+    let mut report = [0u8; 65536];
+    match put_book_in(d, book, sheet, &mut orders, &mut positions, &mut report) {
+        Replied::Done(n) => n,
+        Replied::NoRoom => text::put_refused(d, 3),
+    }
+}
+
+// The lines of a sound book and a sheet, or a refusal's. Short files go by short buffers first.
+fn put_book(d: &mut [u8], book: &[u8], sheet: &[u8]) -> usize
+    requires { ⌜ bookLayout (now book) ≡ Layout.Sound ⌝ }
+    ensures { λ x. ⌜ (x ≡ length (bookText (now (book .entry)) (now (sheet .entry)))) × (now (d .exit) ≡ sets (now (d .entry)) 0 (bookText (now (book .entry)) (now (sheet .entry)))) ⌝ }
+{
+    if 8192 < book.len() + sheet.len() {
+        return put_long(d, book, sheet);
+    }
+    match put_short(d, book, sheet) {
+        Replied::Done(n) => n,
+        Replied::NoRoom => put_long(d, book, sheet),
     }
 }
 

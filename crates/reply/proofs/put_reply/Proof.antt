@@ -1,7 +1,9 @@
 -- `reply::put_reply`: by the case.
 use mathlib.Core.Path.{sym, _∙_}
 use borrow.Author.Needs.{needs}
+use denote.Ref.{now}
 use Rattle.reply.specs.Reply.{replyText}
+use Rattle.reply.proofs.Suffices.{book-sound}
 use Rattle.reply.proofs.put_reply.Statement.{statement}
 use Rattle.reply.proofs.put_reply.Tie as tie
 
@@ -12,7 +14,9 @@ enum-told : tie.Need-enum-told
 enum-told c = search needs
 
 put-book-requires : tie.Need-put-book-requires
-put-book-requires c κs = search needs
+put-book-requires c κs =
+    let a = c .before .before .before .before .before .before .before .args in
+    book-sound (now (a .book)) (now (a .sheet)) (sym (c .before .before .before .files-layout .ensures) ∙ c .before .enum-told .given .1)
 
 enum-told-2 : tie.Need-enum-told-2
 enum-told-2 c = search needs

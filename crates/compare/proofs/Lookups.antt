@@ -1,4 +1,4 @@
--- What one record adds: the quantity that is expected of a symbol, an open intent, the last mark. And what a sound layout says of the sheet's.
+-- What one record adds: the quantity that is expected of a symbol, an open intent, the last mark. And the first of two layouts that are sound together.
 -- Assumes nothing.
 use Prim.Native.Nat.{ℕ, zero, suc, _+_, _*_, _≤_, _<_}
 use mathlib.Core.Path.{_≡_, refl, ap}
@@ -58,7 +58,7 @@ mark-last u (suc zero) h = absurd (omega arith)
 mark-last u (suc (suc zero)) h = absurd (omega arith)
 mark-last u (suc (suc (suc i))) h = refl
 
--- two layouts that are sound together: so is the first
+-- of two layouts that are sound together the first is sound
 pub first-sound : (a b : Layout) → bothOf a b ≡ L.Sound → a ≡ L.Sound
 first-sound L.Sound b e = refl
 first-sound L.Oversize b e = e

@@ -31,7 +31,7 @@ pub enum Pass {
     Incomplete,
 }
 
-// Of which queries the marks have an intent and no result. The passes take it in place of the marks, which are 208 bytes.
+// Of which queries the marks have an intent and no result: all that the passes ask of the marks.
 pub struct Unanswered {
     pub positions: bool,
     pub quotes: bool,

@@ -47,7 +47,7 @@ first-sound false L.Broken m h = h
 pub book-sound : (book sheet : List ℕ) → filesLayout book sheet ≡ L.Sound → bookLayout book ≡ L.Sound
 book-sound book sheet h = first-sound (ltb 65536 (length book)) (bookLayout book) (fileLayout sheet (sheetLayout sheet)) h
 
--- what is put by a text that is the same, where long buffers were long before
+-- an equal text, and long buffers that were long before
 pub puts-same : (x : Replied) (a b : Bool) (t u d after : List ℕ) → u ≡ t → (b ≡ true → a ≡ true) → Puts x a t d after → Puts x b u d after
 puts-same (Done n) a b t u d after e f h = rw e h
 puts-same NoRoom a b t u d after e f h = (h .0, λ l. e ∙ h .1 (f l))

@@ -1,4 +1,4 @@
--- What a text by short or long buffers leaves. No entry's promise cites it.
+-- What is left of a buffer by a text that is made in lent buffers. No entry's promise cites it.
 -- Assumes nothing.
 use Prim.Native.Nat.{ℕ}
 use mathlib.Core.Path.{_≡_}
@@ -10,7 +10,7 @@ use Rattle.reply.specs.Text.{refusedLine}
 use Rattle.reply.specs.declared.Replied.{Replied}
 use Rattle.reply.specs.declared.Replied.the-variants.{Done, NoRoom}
 
--- the text at the start, or nothing where a buffer between was too short; long buffers are so where the text is refusal 3's line
+-- the text at the start; or no text, since a lent buffer is too short: where they are long, the text is then refusal 3's line
 abbrev pub Puts : Replied → Bool → List ℕ → List ℕ → List ℕ → Type 0
 Puts (Done n) long t d after = (n ≡ length t) × (after ≡ sets d 0 t)
 Puts NoRoom long t d after = (after ≡ d) × (long ≡ true → t ≡ refusedLine 3)

@@ -133,7 +133,7 @@ fn put_book_in(
     }
 }
 
-// The same by short buffers, which take what most logs give.
+// The same by short buffers.
 fn put_short(d: &mut [u8], book: &[u8], sheet: &[u8]) -> Replied
     requires { ⌜ bookLayout (now book) ≡ Layout.Sound ⌝ }
     ensures { λ x. ⌜ Puts x false (bookText (now (book .entry)) (now (sheet .entry))) (now (d .entry)) (now (d .exit)) ⌝ }
@@ -144,7 +144,7 @@ fn put_short(d: &mut [u8], book: &[u8], sheet: &[u8]) -> Replied
     put_book_in(d, book, sheet, &mut orders, &mut positions, &mut report)
 }
 
-// The same by buffers of the size that the desk lends: one that is too short is refusal 3.
+// The same by buffers of 65,536 bytes: where one is too short, refusal 3's line.
 fn put_long(d: &mut [u8], book: &[u8], sheet: &[u8]) -> usize
     requires { ⌜ bookLayout (now book) ≡ Layout.Sound ⌝ }
     ensures { λ x. ⌜ (x ≡ length (bookText (now (book .entry)) (now (sheet .entry)))) × (now (d .exit) ≡ sets (now (d .entry)) 0 (bookText (now (book .entry)) (now (sheet .entry)))) ⌝ }
@@ -158,7 +158,7 @@ fn put_long(d: &mut [u8], book: &[u8], sheet: &[u8]) -> usize
     }
 }
 
-// The lines of a sound book and a sheet, or a refusal's. Short files go by short buffers first.
+// The lines of a sound book and a sheet, or a refusal's. Short files go by short buffers, and by long ones where those do not suffice.
 fn put_book(d: &mut [u8], book: &[u8], sheet: &[u8]) -> usize
     requires { ⌜ bookLayout (now book) ≡ Layout.Sound ⌝ }
     ensures { λ x. ⌜ (x ≡ length (bookText (now (book .entry)) (now (sheet .entry)))) × (now (d .exit) ≡ sets (now (d .entry)) 0 (bookText (now (book .entry)) (now (sheet .entry)))) ⌝ }

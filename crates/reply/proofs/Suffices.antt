@@ -24,7 +24,8 @@ use Rattle.records.proofs.Positions.{position-size}
 use Rattle.effects.specs.Event.{eventsOf}
 use Rattle.audit.specs.Verdict.{bookVerdict}
 use Rattle.audit.specs.declared.validate.Verdict.{Verdict}
-use Rattle.recovery.specs.Recover.{State, firstState, roomy, stateOf, timeLayout, doneIf, bytesIf, recovery, ordersOut, positionsOut, recoveryNumber}
+use Rattle.book.specs.Time.{timeLayout}
+use Rattle.recovery.specs.Recover.{State, firstState, roomy, stateOf, doneIf, bytesIf, recovery, ordersOut, positionsOut, recoveryNumber}
 use Rattle.recovery.specs.declared.recover.Recovered.{Recovered}
 use Rattle.recovery.specs.declared.recover.Recovery.{Recovery}
 use Rattle.recovery.specs.declared.recover.Recovery.the-variants as R

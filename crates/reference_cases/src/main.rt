@@ -1,8 +1,7 @@
 // The examples of document 01 beside its reference sequence, run through the entries: those of the table of refusals, the desk program's, and the
 // wrong turns. For each a line: what it is, and the numbers that the entry gives, a refusal's number first, 0 for none.
 //
-// It reads `examples.bin`, written by `make`, from the folder it is run in. The reference sequence itself, M1 to M12, is `specs/Reference.antt`, proved in
-// `proofs/Reached.antt`.
+// It reads `examples.bin`, written by `make`, from the folder it is run in. The reference sequence itself, M1 to M12, is the crate `reference`.
 mod desk;
 mod example;
 mod numbers;

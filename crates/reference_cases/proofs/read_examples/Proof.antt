@@ -1,8 +1,8 @@
 -- `reference::read_examples`: fewer examples may be left each time.
 use Prim.Native.Nat.{_≤_}
 use borrow.Author.Needs.{needs}
-use Rattle.reference.proofs.read_examples.Statement.{statement}
-use Rattle.reference.proofs.read_examples.Tie as tie
+use Rattle.reference_cases.proofs.read_examples.Statement.{statement}
+use Rattle.reference_cases.proofs.read_examples.Tie as tie
 
 abbrev Inv-loop : tie.InvT-loop
 Inv-loop fd most left₀ left = left ≤ most

@@ -1,19 +1,41 @@
 //! Each entry of the library with the judge's answer to the same inputs.
 
-use std::cell::RefCell;
-
-use oracle::doc01::records::DISCREPANCY;
+use oracle::doc01::records::{DISCREPANCY, ORDER, POSITION};
 use oracle::doc01::{Book, Marks, Sheet};
-use oracle::{desk, judge, original};
+use oracle::judge;
 
 use crate::library::{self, Lent};
 
-/// The judge's answer: the refusal's number, the bytes at the start of each output, the answer's bytes. All other bytes are zero.
+/// The judge's answer where the rooms of the outputs suffice: the refusal's number, the bytes at the start of each output, the answer's bytes. All
+/// other bytes are zero.
 #[derive(Debug, Clone, PartialEq, Eq)]
 pub struct Due {
     pub refusal: u32,
+    /// The room that each output must have, as far as rooms are tested before the refusal: a smaller one is refused by 3 instead.
+    pub needs: Vec<usize>,
     pub outputs: Vec<Vec<u8>>,
     pub answer: Vec<u8>,
+}
+
+impl Due {
+    /// Whether the rooms of the outputs suffice.
+    pub fn fits(&self, rooms: &[usize]) -> bool {
+        self.needs.iter().zip(rooms).all(|(need, room)| need <= room)
+    }
+
+    /// The judge's answer in given rooms of the outputs.
+    pub fn within(self, rooms: &[usize]) -> Due {
+        if self.fits(rooms) {
+            self
+        } else {
+            refused(3)
+        }
+    }
+
+    /// Of an entry that tests the rooms of its outputs behind all else, and needs as much as it writes.
+    pub(crate) fn said(outputs: Vec<Vec<u8>>, answer: Vec<u8>) -> Due {
+        Due { refusal: 0, needs: outputs.iter().map(Vec::len).collect(), outputs, answer }
+    }
 }
 
 #[derive(Clone, Copy)]
@@ -27,7 +49,7 @@ pub struct Entry {
     pub answer: usize,
     /// Whether the last input is lent as the first output, and altered in place.
     pub held: bool,
-    pub due: fn(&[Vec<u8>], &[u64], &[usize]) -> Due,
+    pub due: fn(&[Vec<u8>], &[u64]) -> Due,
     pub call: fn(&[Vec<u8>], &[u64], &mut [Lent]) -> u32,
 }
 
@@ -44,19 +66,19 @@ pub(crate) fn numbers(of: &[u64]) -> Vec<u8> {
 }
 
 pub(crate) fn refused(refusal: u32) -> Due {
-    Due { refusal, outputs: Vec::new(), answer: Vec::new() }
+    Due { refusal, needs: Vec::new(), outputs: Vec::new(), answer: Vec::new() }
 }
 
 pub(crate) fn two(said: Result<(u64, u64), u32>) -> Due {
     match said {
-        Ok((a, b)) => Due { refusal: 0, outputs: Vec::new(), answer: numbers(&[a, b]) },
+        Ok((a, b)) => Due::said(Vec::new(), numbers(&[a, b])),
         Err(refusal) => refused(refusal),
     }
 }
 
 pub(crate) fn written(said: Result<(Vec<u8>, u64, u64), u32>) -> Due {
     match said {
-        Ok((output, a, b)) => Due { refusal: 0, outputs: vec![output], answer: numbers(&[a, b]) },
+        Ok((output, a, b)) => Due::said(vec![output], numbers(&[a, b])),
         Err(refusal) => refused(refusal),
     }
 }
@@ -66,40 +88,13 @@ pub(crate) fn marks(bytes: &[u8]) -> Result<Marks, u32> {
     Marks::parse(bytes).ok_or(2)
 }
 
-/// What the original recovers from a book, and the most orders and positions after any event.
-#[derive(Clone)]
-struct Recovery {
-    answer: Due,
-    most: (usize, usize),
-}
-
-thread_local! {
-    /// The recovery asked for last: it is asked for again in other rooms.
-    static LAST: RefCell<Option<(Vec<u8>, u64, Result<Recovery, u32>)>> = const { RefCell::new(None) };
-}
-
-fn recovery(book: &[u8], time: u64) -> Result<Recovery, u32> {
-    let said = judge::reconstruct_state(book, time as i64, usize::MAX, usize::MAX)?;
-    let most = original::peak(&Book::parse(book)?).map_err(|_| UNJUDGED)?;
-    let counts = [(said.orders.len() / 64) as u64, (said.positions.len() / 32) as u64, said.action as u64];
-    let answer = [said.marks.bytes(), numbers(&counts)].concat();
-    Ok(Recovery { answer: Due { refusal: 0, answer, outputs: vec![said.orders, said.positions] }, most })
-}
-
 /// The rooms are tested after each event, so that a room that takes the end's records need not do.
-fn recover(inputs: &[Vec<u8>], numbers: &[u64], rooms: &[usize]) -> Due {
-    let said = LAST.with(|last| {
-        let mut last = last.borrow_mut();
-        match &*last {
-            Some((book, time, said)) if book == &inputs[0] && *time == numbers[0] => said.clone(),
-            _ => last.insert((inputs[0].clone(), numbers[0], recovery(&inputs[0], numbers[0]))).2.clone(),
-        }
-    });
-    match said {
-        Ok(said) if said.most.0 * 64 > rooms[0] || said.most.1 * 32 > rooms[1] => refused(3),
-        Ok(said) => said.answer,
-        Err(refusal) => refused(refusal),
-    }
+fn recover(inputs: &[Vec<u8>], times: &[u64]) -> Result<Due, u32> {
+    let said = judge::reconstruct_state(&inputs[0], times[0] as i64, usize::MAX, usize::MAX)?;
+    let (orders, positions) = judge::most_recovered(&inputs[0])?;
+    let counts = [(said.orders.len() / ORDER) as u64, (said.positions.len() / POSITION) as u64, said.action as u64];
+    let answer = [said.marks.bytes(), numbers(&counts)].concat();
+    Ok(Due { refusal: 0, needs: vec![orders * ORDER, positions * POSITION], outputs: vec![said.orders, said.positions], answer })
 }
 
 fn action(inputs: &[Vec<u8>]) -> Result<(u64, u64), u32> {
@@ -115,24 +110,21 @@ fn equal(inputs: &[Vec<u8>]) -> Result<(u64, u64), u32> {
     Ok((judge::states_equal(x, y)? as u64, 0))
 }
 
-fn compared(inputs: &[Vec<u8>], rooms: &[usize]) -> Result<(Vec<u8>, u64, u64), u32> {
+fn compared(inputs: &[Vec<u8>]) -> Result<(Vec<u8>, u64, u64), u32> {
     Sheet::limits(&inputs[3])?;
-    let report = judge::compare_broker_state(&marks(&inputs[0])?, &inputs[1], &inputs[2], &inputs[3], rooms[0])?;
+    let report = judge::compare_broker_state(&marks(&inputs[0])?, &inputs[1], &inputs[2], &inputs[3], usize::MAX)?;
     let count = (report.len() / DISCREPANCY) as u64;
     Ok((report, count, (count > 0) as u64))
 }
 
-fn replied(inputs: &[Vec<u8>], rooms: &[usize]) -> Result<(Vec<u8>, u64, u64), u32> {
-    let text = desk::reply(Some(&inputs[0]), Some(&inputs[1])).into_bytes();
-    let length = text.len();
-    if length > rooms[0] {
-        return Err(3);
-    }
-    Ok((text, length as u64, 0))
+fn replied(inputs: &[Vec<u8>]) -> Due {
+    let text = judge::reply(&inputs[0], &inputs[1]).into_bytes();
+    let length = text.len() as u64;
+    written(Ok((text, length, 0)))
 }
 
-fn drifted(inputs: &[Vec<u8>], numbers: &[u64], rooms: &[usize]) -> Result<(Vec<u8>, u64, u64), u32> {
-    let said = judge::drift(&inputs[0], &inputs[1], &inputs[2], numbers[0] as i64, rooms[0])?;
+fn drifted(inputs: &[Vec<u8>], numbers: &[u64]) -> Result<(Vec<u8>, u64, u64), u32> {
+    let said = judge::drift(&inputs[0], &inputs[1], &inputs[2], numbers[0] as i64, usize::MAX)?;
     let count = (said.entries.len() / 64) as u64;
     Ok((said.entries, count, said.tracking))
 }
@@ -153,37 +145,50 @@ fn step(inputs: &[Vec<u8>], numbers: &[u64]) -> Result<(Vec<u8>, u64, u64), u32>
     Ok((judge::step(&inputs[0], marks.time, next)?.ok_or(UNJUDGED)?.bytes(), 1, 0))
 }
 
-fn joined(inputs: &[Vec<u8>], numbers: &[u64], rooms: &[usize]) -> Result<(Vec<u8>, u64, u64), u32> {
-    let book = judge::join(&inputs[0], &inputs[1], numbers[0], rooms[0])?;
+fn joined(inputs: &[Vec<u8>], numbers: &[u64]) -> Result<(Vec<u8>, u64, u64), u32> {
+    let book = judge::join(&inputs[0], &inputs[1], numbers[0], usize::MAX)?;
     let length = book.len() as u64;
     Ok((book, length, 0))
 }
 
-fn reconciled(inputs: &[Vec<u8>], times: &[u64], rooms: &[usize]) -> Result<Due, u32> {
+fn reconciled(inputs: &[Vec<u8>], times: &[u64]) -> Result<Due, u32> {
     Sheet::limits(&inputs[2])?;
     let marks = marks(&inputs[0])?;
-    let said = judge::reconcile_incomplete_intents(&marks, &inputs[1], &inputs[2], &inputs[3], times[0] as i64, rooms[0])?;
+    let said = judge::reconcile_incomplete_intents(&marks, &inputs[1], &inputs[2], &inputs[3], times[0] as i64, usize::MAX)?;
     let answer = numbers(&[said.entries, said.unreached, said.book.len() as u64]);
-    Ok(Due { refusal: 0, outputs: vec![said.book], answer })
+    Ok(Due::said(vec![said.book], answer))
 }
 
 /// Recovery, reconciling on what it gave, and the join; a call that is refused refuses the round.
-fn round(inputs: &[Vec<u8>], said: &[u64], rooms: &[usize]) -> Result<Due, u32> {
-    let recovered = recover(&inputs[..1], &said[..1], &rooms[..2]);
-    if recovered.refusal != 0 {
-        return Err(recovered.refusal);
-    }
+fn round(inputs: &[Vec<u8>], said: &[u64]) -> Result<Due, u32> {
+    let recovered = recover(&inputs[..1], &said[..1])?;
     let marks = marks(&recovered.answer[..176])?;
-    let orders = &recovered.outputs[0];
-    let addendum = judge::reconcile_incomplete_intents(&marks, orders, &inputs[1], &inputs[2], said[1] as i64, rooms[2])?.book;
-    let joined = judge::join(&inputs[0], &addendum, said[2], rooms[3])?;
-    let answer = numbers(&[joined.len() as u64, 0]);
-    Ok(Due { refusal: 0, outputs: [recovered.outputs, vec![addendum, joined]].concat(), answer })
+    let settled = judge::reconcile_incomplete_intents(&marks, &recovered.outputs[0], &inputs[1], &inputs[2], said[1] as i64, usize::MAX);
+    Ok(rounded(recovered, settled, &inputs[0], said[2]))
+}
+
+/// The round behind recovery. Each call tests its rooms behind its other refusals, and before the next call's.
+pub(crate) fn rounded(recovered: Due, settled: Result<judge::Addendum, u32>, book: &[u8], k: u64) -> Due {
+    let mut due = recovered;
+    let joined = settled.and_then(|addendum| {
+        due.needs.push(addendum.book.len());
+        due.outputs.push(addendum.book);
+        judge::join(book, &due.outputs[2], k, usize::MAX)
+    });
+    match joined {
+        Ok(joined) => {
+            due.needs.push(joined.len());
+            due.answer = numbers(&[joined.len() as u64, 0]);
+            due.outputs.push(joined);
+            due
+        }
+        Err(refusal) => Due { needs: due.needs, ..refused(refusal) },
+    }
 }
 
 fn verdict(inputs: &[Vec<u8>]) -> Due {
     let (refusal, event, checkpoint) = judge::validate_checkpoints_from_parsed(&inputs[0]);
-    Due { refusal, outputs: Vec::new(), answer: numbers(&[event as u64, checkpoint as u64]) }
+    Due { answer: numbers(&[event as u64, checkpoint as u64]), ..refused(refusal) }
 }
 
 pub static CHECK_BOOK: Entry = Entry {
@@ -193,7 +198,7 @@ pub static CHECK_BOOK: Entry = Entry {
     outputs: 0,
     answer: 0,
     held: false,
-    due: |inputs, _, _| refused(Book::parse(&inputs[0]).err().unwrap_or(0)),
+    due: |inputs, _| refused(Book::parse(&inputs[0]).err().unwrap_or(0)),
     call: library::desk_check_book,
 };
 
@@ -204,7 +209,7 @@ pub static CHECK_SHEET: Entry = Entry {
     outputs: 0,
     answer: 0,
     held: false,
-    due: |inputs, _, _| refused(Sheet::parse(&inputs[0]).err().unwrap_or(0)),
+    due: |inputs, _| refused(Sheet::parse(&inputs[0]).err().unwrap_or(0)),
     call: library::desk_check_sheet,
 };
 
@@ -215,7 +220,7 @@ pub static VERDICT: Entry = Entry {
     outputs: 0,
     answer: TWO,
     held: false,
-    due: |inputs, _, _| verdict(inputs),
+    due: |inputs, _| verdict(inputs),
     call: library::desk_validate_checkpoints,
 };
 
@@ -226,7 +231,7 @@ pub static MAX: Entry = Entry {
     outputs: 0,
     answer: TWO,
     held: false,
-    due: |inputs, _, _| two(judge::max_checkpoint_sequence(&inputs[0]).map(|n| (n, 0))),
+    due: |inputs, _| two(judge::max_checkpoint_sequence(&inputs[0]).map(|n| (n, 0))),
     call: library::desk_max_checkpoint_sequence,
 };
 
@@ -237,7 +242,7 @@ pub static WINDOW: Entry = Entry {
     outputs: 0,
     answer: TWO,
     held: false,
-    due: |inputs, _, _| two(judge::check_window_already_complete(&inputs[0], &inputs[1]).map(|n| (n.is_some() as u64, n.unwrap_or(0)))),
+    due: |inputs, _| two(judge::check_window_already_complete(&inputs[0], &inputs[1]).map(|n| (n.is_some() as u64, n.unwrap_or(0)))),
     call: library::desk_check_window_already_complete,
 };
 
@@ -248,7 +253,7 @@ pub static RECOVER: Entry = Entry {
     outputs: 2,
     answer: RECOVERED,
     held: false,
-    due: recover,
+    due: |inputs, numbers| recover(inputs, numbers).unwrap_or_else(refused),
     call: library::desk_reconstruct_state,
 };
 
@@ -259,7 +264,7 @@ pub static ACTION: Entry = Entry {
     outputs: 0,
     answer: TWO,
     held: false,
-    due: |inputs, _, _| two(action(inputs)),
+    due: |inputs, _| two(action(inputs)),
     call: library::desk_recovery_action,
 };
 
@@ -270,7 +275,7 @@ pub static EQUAL: Entry = Entry {
     outputs: 0,
     answer: TWO,
     held: false,
-    due: |inputs, _, _| two(equal(inputs)),
+    due: |inputs, _| two(equal(inputs)),
     call: library::desk_states_equal,
 };
 
@@ -281,7 +286,7 @@ pub static COMPARE: Entry = Entry {
     outputs: 1,
     answer: TWO,
     held: false,
-    due: |inputs, _, rooms| written(compared(inputs, rooms)),
+    due: |inputs, _| written(compared(inputs)),
     call: library::desk_compare_broker_state,
 };
 
@@ -292,7 +297,7 @@ pub static STEP: Entry = Entry {
     outputs: 1,
     answer: TWO,
     held: true,
-    due: |inputs, numbers, _| written(step(inputs, numbers)),
+    due: |inputs, numbers| written(step(inputs, numbers)),
     call: library::desk_step,
 };
 
@@ -303,7 +308,7 @@ pub static REPLY: Entry = Entry {
     outputs: 1,
     answer: TWO,
     held: false,
-    due: |inputs, _, rooms| written(replied(inputs, rooms)),
+    due: |inputs, _| replied(inputs),
     call: library::desk_reply,
 };
 
@@ -314,7 +319,7 @@ pub static DRIFT: Entry = Entry {
     outputs: 1,
     answer: TWO,
     held: false,
-    due: |inputs, numbers, rooms| written(drifted(inputs, numbers, rooms)),
+    due: |inputs, numbers| written(drifted(inputs, numbers)),
     call: library::desk_reconcile,
 };
 
@@ -325,7 +330,7 @@ pub static HELD: Entry = Entry {
     outputs: 0,
     answer: TWO,
     held: false,
-    due: |inputs, _, _| two(judge::held_value(&inputs[0], &inputs[1]).map(|value| (value as u64, 0))),
+    due: |inputs, _| two(judge::held_value(&inputs[0], &inputs[1]).map(|value| (value as u64, 0))),
     call: library::desk_held_value,
 };
 
@@ -336,7 +341,7 @@ pub static JOIN: Entry = Entry {
     outputs: 1,
     answer: TWO,
     held: false,
-    due: |inputs, numbers, rooms| written(joined(inputs, numbers, rooms)),
+    due: |inputs, numbers| written(joined(inputs, numbers)),
     call: library::desk_join,
 };
 
@@ -347,7 +352,7 @@ pub static RECONCILE: Entry = Entry {
     outputs: 1,
     answer: THREE,
     held: false,
-    due: |inputs, numbers, rooms| reconciled(inputs, numbers, rooms).unwrap_or_else(refused),
+    due: |inputs, numbers| reconciled(inputs, numbers).unwrap_or_else(refused),
     call: library::desk_reconcile_incomplete_intents,
 };
 
@@ -358,13 +363,13 @@ pub static ROUND: Entry = Entry {
     outputs: 4,
     answer: TWO,
     held: false,
-    due: |inputs, numbers, rooms| round(inputs, numbers, rooms).unwrap_or_else(refused),
+    due: |inputs, numbers| round(inputs, numbers).unwrap_or_else(refused),
     call: library::desk_round,
 };
 
 fn converted(said: Result<i64, u32>) -> Due {
     match said {
-        Ok(value) => Due { refusal: 0, outputs: Vec::new(), answer: numbers(&[value as u64]) },
+        Ok(value) => Due::said(Vec::new(), numbers(&[value as u64])),
         Err(refusal) => refused(refusal),
     }
 }
@@ -376,7 +381,7 @@ pub static FIXED: Entry = Entry {
     outputs: 0,
     answer: 8,
     held: false,
-    due: |_, numbers, _| converted(judge::f64_to_fixed_checked(numbers[0], numbers[1])),
+    due: |_, numbers| converted(judge::f64_to_fixed_checked(numbers[0], numbers[1])),
     call: library::desk_f64_to_fixed_checked,
 };
 
@@ -387,7 +392,7 @@ pub static CENTS: Entry = Entry {
     outputs: 0,
     answer: 8,
     held: false,
-    due: |_, numbers, _| converted(judge::f64_cents_checked(numbers[0])),
+    due: |_, numbers| converted(judge::f64_cents_checked(numbers[0])),
     call: library::desk_f64_cents_checked,
 };
 
@@ -397,8 +402,7 @@ fn plain(n: u64) -> Due {
     let float = f64::from_bits(n);
     let whole = [bits(float), float.is_finite() as u64, float as i64 as u64, (n as i64 as f64).to_bits(), (n as f64).to_bits()];
     let ids = [n as i32 as i64 as u64, n as i64 as i32 as u64];
-    let answer = numbers(&[&whole[..], &[bits(float.sqrt())], &ids].concat());
-    Due { refusal: 0, outputs: Vec::new(), answer }
+    Due::said(Vec::new(), numbers(&[&whole[..], &[bits(float.sqrt())], &ids].concat()))
 }
 
 pub static PLAIN: Entry = Entry {
@@ -408,6 +412,6 @@ pub static PLAIN: Entry = Entry {
     outputs: 0,
     answer: library::PLAIN,
     held: false,
-    due: |_, numbers, _| plain(numbers[0]),
+    due: |_, numbers| plain(numbers[0]),
     call: library::plain,
 };

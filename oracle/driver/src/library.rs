@@ -12,23 +12,35 @@ pub struct Lent {
 
 impl Lent {
     pub fn new(room: usize) -> Lent {
-        Lent { bytes: vec![GARBAGE; BESIDE + room + BESIDE], room }
+        let mut lent = Lent { bytes: Vec::new(), room };
+        lent.again(room);
+        lent
     }
 
-    /// Bytes that the entry reads too.
-    pub fn holding(bytes: &[u8]) -> Lent {
-        let mut lent = Lent::new(bytes.len());
-        lent.bytes[BESIDE..BESIDE + bytes.len()].copy_from_slice(bytes);
-        lent
+    /// Lent again with this room, all garbage.
+    pub fn again(&mut self, room: usize) {
+        self.bytes.clear();
+        self.bytes.resize(BESIDE + room + BESIDE, GARBAGE);
+        self.room = room;
+    }
+
+    /// Lent again with bytes that the entry reads too.
+    pub fn holding(&mut self, bytes: &[u8]) {
+        self.again(bytes.len());
+        self.bytes[BESIDE..BESIDE + bytes.len()].copy_from_slice(bytes);
     }
 
     pub fn bytes(&self) -> &[u8] {
         &self.bytes[BESIDE..BESIDE + self.room]
     }
 
+    pub fn bytes_mut(&mut self) -> &mut [u8] {
+        &mut self.bytes[BESIDE..BESIDE + self.room]
+    }
+
     /// Whether a byte beside the lent ones was written.
     pub fn beside(&self) -> bool {
-        self.bytes[..BESIDE].iter().chain(&self.bytes[BESIDE + self.room..]).any(|b| *b != GARBAGE)
+        self.bytes[..BESIDE] != [GARBAGE; BESIDE] || self.bytes[BESIDE + self.room..] != [GARBAGE; BESIDE]
     }
 }
 

@@ -1,10 +1,16 @@
 //! One question put to both: the library through its boundary, and the judge.
 
+use std::cell::RefCell;
+use std::ops::Deref;
+
 use crate::entries::{Due, Entry, UNJUDGED};
 use crate::library::Lent;
 
 /// Room enough for every output of a case.
 const AMPLE: usize = 1 << 20;
+
+/// The most outputs of an entry, its answer among them.
+const MOST: usize = 5;
 
 /// The most room behind an exact one.
 const BEHIND: usize = 4_096;
@@ -16,6 +22,41 @@ pub struct Question {
     pub numbers: Vec<u64>,
     /// Rooms to try beside those around the exact one.
     pub rooms: Vec<Vec<usize>>,
+}
+
+/// The rooms of an entry's outputs and of its answer.
+#[derive(Debug, Clone, Copy, PartialEq, Eq)]
+pub struct Rooms {
+    of: [usize; MOST],
+    many: usize,
+}
+
+impl Rooms {
+    fn new(outputs: &[usize], answer: usize) -> Rooms {
+        let mut of = [0; MOST];
+        of[..outputs.len()].copy_from_slice(outputs);
+        of[outputs.len()..][..(answer > 0) as usize].fill(answer);
+        Rooms { of, many: outputs.len() + (answer > 0) as usize }
+    }
+
+    /// The same but for one room.
+    fn but(mut self, place: usize, room: usize) -> Rooms {
+        self.of[place] = room;
+        self
+    }
+}
+
+impl Deref for Rooms {
+    type Target = [usize];
+
+    fn deref(&self) -> &[usize] {
+        &self.of[..self.many]
+    }
+}
+
+thread_local! {
+    /// The bytes that are lent, again and again.
+    static LENT: RefCell<[Lent; MOST]> = RefCell::new([0; MOST].map(Lent::new));
 }
 
 /// What an entry returned and left in the lent bytes, and whether it wrote beside them.
@@ -63,13 +104,14 @@ impl Question {
         self
     }
 
+    /// The judge's answer in given rooms of the outputs.
     pub fn due(&self, rooms: &[usize]) -> Due {
-        (self.entry.due)(&self.inputs, &self.numbers, rooms)
+        self.ample().within(rooms)
     }
 
     /// The judge's answer with ample room.
     pub fn ample(&self) -> Due {
-        self.due(&vec![AMPLE; self.entry.outputs])
+        (self.entry.due)(&self.inputs, &self.numbers)
     }
 
     /// The bytes that are altered in place.
@@ -77,116 +119,129 @@ impl Question {
         self.inputs.last().filter(|_| self.entry.held)
     }
 
-    fn asked(&self, rooms: &[usize]) -> Answer {
-        let mut lent: Vec<Lent> = rooms.iter().map(|room| Lent::new(*room)).collect();
+    /// Lends bytes in these rooms and calls the entry; what it returned.
+    fn call(&self, rooms: &[usize], lent: &mut [Lent]) -> u32 {
+        lent.iter_mut().zip(rooms).for_each(|(lent, room)| lent.again(*room));
         let mut inputs = &self.inputs[..];
         if let Some(held) = self.held() {
-            lent[0] = Lent::holding(held);
+            lent[0].holding(held);
             inputs = &inputs[..inputs.len() - 1];
         }
-        let number = (self.entry.call)(inputs, &self.numbers, &mut lent);
-        Answer { number, beside: lent.iter().any(Lent::beside), outputs: lent.iter().map(|l| l.bytes().to_vec()).collect() }
+        (self.entry.call)(inputs, &self.numbers, lent)
     }
 
     /// The rooms of the outputs and of the answer: each around the exact one, the others exact; then those that were asked for.
-    pub fn all_rooms(&self, due: &Due) -> Vec<Vec<usize>> {
-        let mut exact: Vec<usize> = (0..self.entry.outputs).map(|i| due.outputs.get(i).map_or(0, Vec::len)).collect();
+    pub fn all_rooms(&self, due: &Due) -> Vec<Rooms> {
+        let (outputs, answer) = (self.entry.outputs, self.entry.answer);
+        let mut of = [0; MOST];
+        of.iter_mut().zip(&due.outputs).for_each(|(room, output)| *room = output.len());
         if let Some(held) = self.held() {
-            exact[0] = held.len();
+            of[0] = held.len();
         }
-        let answer = |rooms: &[usize], last: usize| match self.entry.answer {
-            0 => rooms.to_vec(),
-            _ => [rooms, &[last]].concat(),
-        };
-        let mut out = vec![answer(&exact, self.entry.answer)];
-        for (i, room) in exact.iter().enumerate().filter(|_| !self.entry.held) {
-            for other in [0, room / 2, room.wrapping_sub(1), room + 1, room + 64].into_iter().filter(|n| *n <= AMPLE && n != room) {
-                let mut rooms = exact.clone();
-                rooms[i] = other;
-                out.push(answer(&rooms, self.entry.answer));
-            }
+        let exact = Rooms::new(&of[..outputs], answer);
+        let mut out = vec![exact];
+        for i in (0..outputs).filter(|_| !self.entry.held) {
+            let room = exact[i];
+            let others = [0, room / 2, room.wrapping_sub(1), room + 1, room + 64].into_iter().filter(|n| *n <= AMPLE && *n != room);
+            out.extend(others.map(|other| exact.but(i, other)));
         }
-        if self.entry.answer > 0 {
-            for last in [0, self.entry.answer / 2, self.entry.answer - 1, self.entry.answer + 1, self.entry.answer + 48] {
-                out.push(answer(&exact, last));
-            }
+        if answer > 0 {
+            out.extend([0, answer / 2, answer - 1, answer + 1, answer + 48].map(|last| exact.but(outputs, last)));
         }
         for rooms in &self.rooms {
-            let near: Vec<usize> = rooms.iter().zip(&exact).map(|(room, exact)| (*room).min(exact + BEHIND)).collect();
-            out.push(answer(&near, self.entry.answer));
+            out.push(rooms.iter().zip(&exact[..outputs]).enumerate().fold(exact, |all, (i, (room, exact))| all.but(i, (*room).min(exact + BEHIND))));
         }
         out
     }
 
     /// The first rooms in which the library's answer is another, with the due answer and the library's.
-    pub fn differs(&self, ample: &Due, fault: Option<Fault>, tally: &mut Tally) -> Option<(Vec<usize>, Answer, Answer)> {
-        self.differs_in(self.all_rooms(ample), ample, fault, tally)
+    pub fn differs(&self, ample: &Due, fault: Option<Fault>, tally: &mut Tally) -> Option<(Rooms, Answer, Answer)> {
+        self.differs_in(&self.all_rooms(ample), ample, fault, tally)
     }
 
     /// The same in given rooms.
-    pub fn differs_in(&self, all: Vec<Vec<usize>>, ample: &Due, fault: Option<Fault>, tally: &mut Tally) -> Option<(Vec<usize>, Answer, Answer)> {
+    pub fn differs_in(&self, all: &[Rooms], ample: &Due, fault: Option<Fault>, tally: &mut Tally) -> Option<(Rooms, Answer, Answer)> {
         if ample.refusal == UNJUDGED {
             return None;
         }
-        let mut last: Option<(Vec<usize>, Due)> = None;
-        for rooms in all {
-            tally.calls += 1;
-            tally.bytes += rooms.iter().sum::<usize>() as u64;
-            let outputs = &rooms[..self.entry.outputs];
-            let due = match &last {
-                Some((of, due)) if of == outputs => due.clone(),
-                _ => self.due_of(outputs, ample),
-            };
-            last = Some((outputs.to_vec(), due.clone()));
-            let due = self.due_in(&rooms, due);
-            let answer = faulty(self.asked(&rooms), &due, fault);
-            if answer != due {
-                return Some((rooms, due, answer));
-            }
-        }
-        None
+        LENT.with(|lent| all.iter().find_map(|rooms| self.differs_at(rooms, ample, fault, tally, &mut lent.borrow_mut()[..rooms.len()])))
     }
 
-    /// The judge's answer in given rooms of the outputs.
-    fn due_of(&self, outputs: &[usize], ample: &Due) -> Due {
-        let exact = outputs.iter().zip(&ample.outputs).all(|(room, output)| *room >= output.len());
-        // Of two outputs, a room that takes the end's records need not do: see `recover`.
-        if outputs.is_empty() || (self.entry.outputs == 1 && exact) {
-            ample.clone()
-        } else {
-            self.due(outputs)
+    fn differs_at(&self, rooms: &Rooms, ample: &Due, fault: Option<Fault>, tally: &mut Tally, lent: &mut [Lent]) -> Option<(Rooms, Answer, Answer)> {
+        tally.calls += 1;
+        tally.bytes += rooms.iter().sum::<usize>() as u64;
+        let (due, said) = self.due_at(rooms, ample);
+        let number = self.call(rooms, lent);
+        let number = fault.map_or(number, |fault| faulty(fault, number, lent, due));
+        if self.agrees(due, said, number, lent) {
+            return None;
         }
+        let answer = Answer { number, beside: lent.iter().any(Lent::beside), outputs: lent.iter().map(|l| l.bytes().to_vec()).collect() };
+        Some((*rooms, self.due_in(rooms, ample), answer))
     }
 
-    /// With the answer's room too: an answer that does not fit is 3, after every other refusal. A refusal leaves every output zero, and held bytes
-    /// as they were.
-    fn due_in(&self, rooms: &[usize], due: Due) -> Answer {
-        let mut outputs: Vec<Vec<u8>> = rooms.iter().map(|room| vec![0; *room]).collect();
-        if let Some(held) = self.held() {
-            outputs[0] = held.clone();
-        }
-        let short = self.entry.answer > 0 && rooms[self.entry.outputs] < self.entry.answer;
-        if short {
-            return Answer { number: if due.refusal == 0 { 3 } else { due.refusal }, outputs, beside: false };
-        }
-        let said = due.outputs.iter().zip(0..).chain([(&due.answer, self.entry.outputs)]);
-        for (bytes, i) in said.filter(|(bytes, _)| !bytes.is_empty()) {
-            outputs[i][..bytes.len()].copy_from_slice(bytes);
-        }
-        Answer { number: due.refusal, outputs, beside: false }
+    /// The due number, and what stands at the start of the outputs and of the answer. An answer that does not fit is 3, after every other refusal.
+    fn due_at<'a>(&self, rooms: &[usize], ample: &'a Due) -> (u32, impl Fn(usize) -> &'a [u8]) {
+        let outputs = self.entry.outputs;
+        let fits = ample.fits(&rooms[..outputs]);
+        let short = self.entry.answer > 0 && rooms[outputs] < self.entry.answer;
+        let number = match ample.refusal {
+            _ if !fits => 3,
+            0 if short => 3,
+            refusal => refusal,
+        };
+        let said = move |i: usize| match i {
+            _ if !fits || short => &[][..],
+            _ if i == outputs => &ample.answer,
+            _ => ample.outputs.get(i).map_or(&[][..], |output| output),
+        };
+        (number, said)
+    }
+
+    /// What stands where the judge says nothing: zeros, and in held bytes what they were.
+    fn unsaid(&self, output: usize) -> &[u8] {
+        self.held().filter(|_| output == 0).map_or(&[], |held| held)
+    }
+
+    /// Whether number and bytes are the due ones, and none beside them was written.
+    fn agrees<'a>(&self, due: u32, said: impl Fn(usize) -> &'a [u8], number: u32, lent: &[Lent]) -> bool {
+        let same = |(i, lent): (usize, &Lent)| {
+            let (start, rest) = (said(i), self.unsaid(i));
+            let (front, behind) = lent.bytes().split_at(start.len());
+            let (kept, zero) = behind.split_at(rest.len().saturating_sub(start.len()));
+            !lent.beside() && front == start && kept == &rest[rest.len() - kept.len()..] && zeros(zero)
+        };
+        number == due && lent.iter().enumerate().all(same)
+    }
+
+    fn due_in(&self, rooms: &[usize], ample: &Due) -> Answer {
+        let (number, said) = self.due_at(rooms, ample);
+        let output = |(i, room): (usize, &usize)| {
+            let mut bytes = vec![0; *room];
+            bytes[..self.unsaid(i).len()].copy_from_slice(self.unsaid(i));
+            bytes[..said(i).len()].copy_from_slice(said(i));
+            bytes
+        };
+        Answer { number, outputs: rooms.iter().enumerate().map(output).collect(), beside: false }
     }
 }
 
-fn faulty(mut answer: Answer, due: &Answer, fault: Option<Fault>) -> Answer {
-    let last = answer.outputs.iter_mut().rev().find(|o| !o.is_empty());
+fn zeros(bytes: &[u8]) -> bool {
+    const ZEROS: [u8; 1 << 12] = [0; 1 << 12];
+    bytes.chunks(ZEROS.len()).all(|part| part == &ZEROS[..part.len()])
+}
+
+/// The number of a wrong library, its bytes altered in place.
+fn faulty(fault: Fault, number: u32, lent: &mut [Lent], due: u32) -> u32 {
+    let last = lent.iter_mut().rev().map(Lent::bytes_mut).find(|bytes| !bytes.is_empty());
     match (fault, last) {
-        (Some(Fault::BrokenIsSound), _) if answer.number == 2 => answer.number = 0,
-        (Some(Fault::OversizeIsBroken), _) if answer.number == 1 => answer.number = 2,
-        (Some(Fault::RoomUntested), _) if answer.number == 3 => answer.number = 0,
-        (Some(Fault::LastByteKept), Some(last)) => *last.last_mut().expect("not empty") = 0xa5,
-        (Some(Fault::FirstBitOther), Some(last)) if due.number == 0 => last[0] ^= 1,
-        (Some(Fault::RefusedNotCleared), Some(last)) if due.number != 0 => last[0] = 0xa5,
+        (Fault::BrokenIsSound, _) if number == 2 => return 0,
+        (Fault::OversizeIsBroken, _) if number == 1 => return 2,
+        (Fault::RoomUntested, _) if number == 3 => return 0,
+        (Fault::LastByteKept, Some(last)) => *last.last_mut().expect("not empty") = 0xa5,
+        (Fault::FirstBitOther, Some(last)) if due == 0 => last[0] ^= 1,
+        (Fault::RefusedNotCleared, Some(last)) if due != 0 => last[0] = 0xa5,
         _ => {}
     }
-    answer
+    number
 }

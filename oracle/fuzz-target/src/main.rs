@@ -10,7 +10,7 @@ use std::collections::BTreeMap;
 use std::sync::{Mutex, OnceLock};
 
 use driver::entries::{Due, Entry, UNJUDGED};
-use driver::question::{Fault, Question, Tally, FAULTS};
+use driver::question::{Fault, Question, Rooms, Tally, FAULTS};
 use driver::{quick, smallest};
 use input::Input;
 
@@ -93,10 +93,10 @@ fn chosen(data: &[u8], every: u64) -> bool {
 }
 
 /// The rooms to try: the exact ones, one of those around them, and the lent one.
-fn rooms(question: &Question, due: &Due, pick: u8) -> Vec<Vec<usize>> {
+fn rooms(question: &Question, due: &Due, pick: u8) -> Vec<Rooms> {
     let mut all = question.all_rooms(due);
     let lent = if question.rooms.is_empty() { None } else { all.pop() };
-    let around = if all.len() > 1 { Some(all[1 + pick as usize % (all.len() - 1)].clone()) } else { None };
+    let around = if all.len() > 1 { Some(all[1 + pick as usize % (all.len() - 1)]) } else { None };
     all.truncate(1);
     all.extend(around);
     all.extend(lent.filter(|_| pick % 4 == 0));
@@ -106,8 +106,9 @@ fn rooms(question: &Question, due: &Due, pick: u8) -> Vec<Vec<usize>> {
 /// Where the quick judge and the original differ on a question, in rooms of the outputs.
 pub fn judges_differ(input: &Input, question: &Question, due: &Due) -> Option<String> {
     let original = input.question(originals());
+    let (quick, said) = (question.ample(), original.ample());
     for rooms in [vec![1 << 20; question.entry.outputs], vec![input.room as usize; question.entry.outputs]] {
-        let (quick, said) = (question.due(&rooms), original.due(&rooms));
+        let (quick, said) = (quick.clone().within(&rooms), said.clone().within(&rooms));
         if said.refusal != UNJUDGED && said != quick {
             return Some(format!("in rooms {rooms:?} the quick judge says {quick:02x?}, the original {said:02x?}; ample {due:02x?}"));
         }
@@ -134,7 +135,7 @@ fn judged(data: &[u8]) {
     *run.answers.entry((input.entry, refusal(&due))).or_default() += 1;
     let fault = run.fault;
     let all = rooms(&question, &due, input.pick);
-    if let Some((rooms, due, answer)) = question.differs_in(all, &due, fault, &mut run.tally) {
+    if let Some((rooms, due, answer)) = question.differs_in(&all, &due, fault, &mut run.tally) {
         eprintln!("DISAGREEMENT after {} inputs: {} in rooms {rooms:?}", run.inputs, question.entry.name);
         eprintln!("  due: {due:02x?}\n  the library answers: {answer:02x?}");
         smallest::print(&question, fault);

@@ -5,8 +5,8 @@ use std::fmt::Write;
 use doc01::records::{DISCREPANCY, ORDER, POSITION};
 use doc01::{Book, Discrepancy, Refusal, Sheet, State, ACTIONS, CHECKPOINTS};
 
-use crate::fault;
-use crate::original;
+use crate::log::Log;
+use crate::{fault, judge, original};
 
 /// The most bytes of a file, and the room of each output.
 pub const LENT: usize = 65_536;
@@ -21,11 +21,11 @@ pub struct Said {
 
 /// The reply to `book.bin` and `sheet.bin`; a missing file is read as empty.
 pub fn reply(book: Option<&[u8]>, sheet: Option<&[u8]>) -> String {
-    reply_by(original, book.unwrap_or(&[]), sheet.unwrap_or(&[]))
+    judge::reply(book.unwrap_or(&[]), sheet.unwrap_or(&[]))
 }
 
 /// The same with what a given reading says.
-pub fn reply_by(asked: fn(&Book, &Sheet) -> Said, book: &[u8], sheet: &[u8]) -> String {
+pub fn reply_by(asked: impl Fn(&Book, &Sheet) -> Said, book: &[u8], sheet: &[u8]) -> String {
     lines(asked, book, sheet).unwrap_or_else(|refusal| format!("refused {refusal}\n"))
 }
 
@@ -36,15 +36,16 @@ fn read<T>(bytes: &[u8], parse: fn(&[u8]) -> Result<T, Refusal>) -> Result<T, Re
     parse(bytes)
 }
 
-fn original(book: &Book, sheet: &Sheet) -> Said {
+/// What the original says.
+pub fn of_log(log: &Log, sheet: &Sheet) -> Said {
     let said = |what: &str| -> ! { fault(&format!("the original panicked in {what}")) };
-    let verdict = original::verdict(book).unwrap_or_else(|_| said("validation"));
-    let recovered = original::recover(book, 0).unwrap_or_else(|_| said("recovery"));
-    let report = original::compare_recovered(book, &recovered, sheet).unwrap_or_else(|_| said("comparison"));
-    Said { verdict, state: recovered.state, action: recovered.action, report }
+    let verdict = log.verdict().unwrap_or_else(|_| said("validation"));
+    let recovered = log.recovered().as_ref().unwrap_or_else(|_| said("recovery"));
+    let report = original::compare_recovered(&log.book, recovered, sheet).unwrap_or_else(|_| said("comparison"));
+    Said { verdict, state: recovered.state.clone(), action: recovered.action, report }
 }
 
-fn lines(asked: fn(&Book, &Sheet) -> Said, book: &[u8], sheet: &[u8]) -> Result<String, Refusal> {
+fn lines(asked: impl Fn(&Book, &Sheet) -> Said, book: &[u8], sheet: &[u8]) -> Result<String, Refusal> {
     let book = read(book, Book::parse)?;
     let sheet = read(sheet, Sheet::parse)?;
     let Said { verdict, state, action, report } = asked(&book, &sheet);

@@ -55,6 +55,14 @@ pub fn untag(text: &str) -> TextRef {
     }
 }
 
+/// The first lines of a text of lines.
+pub fn first(text: &str, lines: usize) -> &str {
+    match lines {
+        0 => "",
+        _ => text.match_indices('\n').nth(lines - 1).map_or(text, |(end, _)| &text[..end + 1]),
+    }
+}
+
 struct Lines<'a> {
     book: &'a Book,
     texts: Texts,

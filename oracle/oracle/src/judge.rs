@@ -4,13 +4,16 @@
 //! reports, entries, drift and conversions are the original's. `room` is the length of a lent output in bytes; an output
 //! holds the bytes given here and zeros behind them, or zeros alone on a refusal.
 
+use std::cell::RefCell;
+
 use doc01::drift as rows;
 use doc01::join::join as joined;
 use doc01::records::{self, DISCREPANCY, ORDER, POSITION};
 use doc01::{Book, Cell, Marks, Refusal, Sheet, State};
 
+use crate::log::Log;
 use crate::original::{self, Ran, Reconciled};
-use crate::{fault, Panicked};
+use crate::{desk, fault, Panicked};
 
 /// The original's answer where it must not panic.
 fn said<T>(ran: Ran<T>) -> T {
@@ -27,8 +30,8 @@ fn room(needed: usize, lent: usize) -> Result<(), Refusal> {
 
 /// Refusal, event, checkpoint.
 pub fn validate_checkpoints_from_parsed(book: &[u8]) -> (u32, u32, u32) {
-    match Book::parse(book) {
-        Ok(book) => said(original::verdict(&book)),
+    match Log::of(book) {
+        Ok(log) => said(log.verdict()),
         Err(refusal) => (refusal, 0, 0),
     }
 }
@@ -42,35 +45,41 @@ pub struct Recovery {
 }
 
 pub fn reconstruct_state(book: &[u8], time: i64, orders_room: usize, positions_room: usize) -> Result<Recovery, Refusal> {
-    let book = Book::parse(book)?;
+    let log = Log::of(book)?;
     doc01::time(time)?;
     // No event leaves more records than the longest list and one per event.
-    let longest = book.events.iter().flat_map(|e| e.cells).map(|c| match c {
+    let longest = log.book.events.iter().flat_map(|e| e.cells).map(|c| match c {
         Cell::List { count, .. } => count as usize,
         _ => 0,
     });
-    let most = longest.max().unwrap_or(0) + book.events.len();
+    let most = longest.max().unwrap_or(0) + log.book.events.len();
     if orders_room < most * ORDER || positions_room < most * POSITION {
-        let (orders, positions) = said(original::peak(&book));
+        let (orders, positions) = said(log.peak());
         room(orders * ORDER, orders_room)?;
         room(positions * POSITION, positions_room)?;
     }
-    let recovered = said(original::recover(&book, time));
-    Ok(Recovery {
-        marks: recovered.state.marks,
-        orders: recovered.state.order_bytes(),
-        positions: recovered.state.position_bytes(),
-        action: recovered.action,
-    })
+    let (state, action) = said(log.state(time));
+    Ok(Recovery { marks: state.marks, orders: state.order_bytes(), positions: state.position_bytes(), action })
+}
+
+/// The most records of orders and positions after any event, which recovery must have room for.
+pub fn most_recovered(book: &[u8]) -> Result<(usize, usize), Refusal> {
+    Ok(said(Log::of(book)?.peak()))
+}
+
+/// The desk program's reply.
+pub fn reply(book: &[u8], sheet: &[u8]) -> String {
+    let asked = |_: &Book, sheet: &Sheet| desk::of_log(&*Log::of(book).unwrap_or_else(|_| fault("a book that is read")), sheet);
+    desk::reply_by(asked, book, sheet)
 }
 
 /// The marks after the step over event `next` (from 0) of marks that the steps before it left; None at the log's end.
 pub fn step(book: &[u8], time: i64, next: usize) -> Result<Option<Marks>, Refusal> {
-    let book = Book::parse(book)?;
-    if next >= book.events.len() {
+    let log = Log::of(book)?;
+    if next >= log.book.events.len() {
         return Ok(None);
     }
-    Ok(Some(said(original::marks_after(&book, time, next + 1))))
+    Ok(Some(said(log.marks_after(time, next + 1))))
 }
 
 pub fn determine_recovery_action(marks: &Marks, orders: &[u8]) -> Result<u32, Refusal> {
@@ -109,7 +118,22 @@ pub fn reconcile_incomplete_intents(
     time: i64,
     book_room: usize,
 ) -> Result<Addendum, Refusal> {
-    reconciled_by(original::reconcile, marks, orders, sheet, queries, time, book_room)
+    reconciled_by(reconciled, marks, orders, sheet, queries, time, book_room)
+}
+
+thread_local! {
+    /// The reconciling asked for last: it is asked for again at other times and in other rooms.
+    static LAST: RefCell<Option<(State, Sheet, Vec<u8>, Reconciled)>> = const { RefCell::new(None) };
+}
+
+fn reconciled(state: &State, sheet: &Sheet, queries: &[u8]) -> Reconciled {
+    LAST.with(|last| {
+        let mut last = last.borrow_mut();
+        match &*last {
+            Some((of, on, by, said)) if (of, on, &by[..]) == (state, sheet, queries) => said.clone(),
+            _ => last.insert((state.clone(), sheet.clone(), queries.to_vec(), original::reconcile(state, sheet, queries))).3.clone(),
+        }
+    })
 }
 
 /// The same with the entries and the count from a given reading.
@@ -179,11 +203,11 @@ pub fn states_equal(x: Lent, y: Lent) -> Result<bool, Refusal> {
 }
 
 pub fn max_checkpoint_sequence(book: &[u8]) -> Result<u64, Refusal> {
-    Ok(said(original::max_checkpoint_sequence(&Book::parse(book)?)))
+    Ok(said(Log::of(book)?.max_checkpoint_sequence()))
 }
 
 pub fn check_window_already_complete(book: &[u8], id: &[u8]) -> Result<Option<u64>, Refusal> {
-    Ok(said(original::window_complete(&Book::parse(book)?, id)))
+    Ok(said(Log::of(book)?.window_complete(id)))
 }
 
 #[derive(Debug, Clone, PartialEq, Eq)]

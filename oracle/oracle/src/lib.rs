@@ -2,6 +2,7 @@
 //!
 //! - [`original`]: the original's own answers, on values read from document 01's bytes.
 //! - [`doc01`]: the oracle's reading of document 01, for what the original has no counterpart for.
+//! - [`log`]: a log that many questions are about, with what the original said of it.
 //! - [`judge`]: both together, one function for each entry: bytes in, refusal or output bytes out.
 //! - [`generator`]: cases, deterministic by kind, seed and number.
 //! - [`answer`]: all that is observable of one case, as text, numbers and bytes.
@@ -14,6 +15,7 @@ pub mod desk;
 pub mod differences;
 pub mod json;
 pub mod judge;
+pub mod log;
 pub mod original;
 pub mod record;
 pub mod reference;

@@ -4,7 +4,7 @@
 use std::cell::{Cell as Shared, RefCell};
 use std::panic::{catch_unwind, resume_unwind, AssertUnwindSafe};
 use std::path::PathBuf;
-use std::sync::Once;
+use std::sync::{Once, OnceLock};
 
 use chrono::{TimeZone, Utc};
 use doc01::entries::{addendum, Entry};
@@ -27,9 +27,18 @@ pub struct Panicked(pub String);
 /// What the original said, or that it panicked.
 pub type Ran<T> = Result<T, Panicked>;
 
+/// The log file that the original is given, in a folder of its own.
+struct File {
+    path: PathBuf,
+    /// What it holds, where that is known, so that the same text is written once.
+    held: Option<String>,
+    /// The original's log on it, once it is asked for.
+    open: Option<AuditLog>,
+}
+
 thread_local! {
     static CALLING: Shared<bool> = const { Shared::new(false) };
-    static FOLDER: RefCell<Option<PathBuf>> = const { RefCell::new(None) };
+    static FILE: RefCell<Option<File>> = const { RefCell::new(None) };
 }
 
 /// Calls the original; its panic is silent and an answer.
@@ -53,34 +62,53 @@ fn ran<T>(call: impl FnOnce() -> T) -> Ran<T> {
     })
 }
 
-/// A log file of this thread, in memory where the system has a folder for that.
-fn file() -> PathBuf {
-    FOLDER.with(|folder| {
-        let mut folder = folder.borrow_mut();
-        let folder = folder.get_or_insert_with(|| {
+/// This thread's log file, in memory where the system has a folder for that.
+fn with_file<T>(put: impl FnOnce(&mut File) -> T) -> T {
+    FILE.with(|file| {
+        let mut file = file.borrow_mut();
+        let file = file.get_or_insert_with(|| {
             let memory = PathBuf::from("/dev/shm");
             let base = if memory.is_dir() { memory } else { std::env::temp_dir() };
-            let path = base.join(format!("oracle-{}-{:?}", std::process::id(), std::thread::current().id()));
-            std::fs::create_dir_all(&path).unwrap_or_else(|e| fault(&format!("{}: {e}", path.display())));
-            path
+            let folder = base.join(format!("oracle-{}-{:?}", std::process::id(), std::thread::current().id()));
+            std::fs::create_dir_all(&folder).unwrap_or_else(|e| fault(&format!("{}: {e}", folder.display())));
+            File { path: folder.join("audit.jsonl"), held: None, open: None }
         });
-        folder.join("audit.jsonl")
+        put(file)
     })
 }
 
 /// Removes this thread's log file and its folder.
 pub fn clean() {
-    FOLDER.with(|folder| {
-        if let Some(path) = folder.borrow_mut().take() {
-            let _ = std::fs::remove_dir_all(path);
-        }
-    });
+    if let Some(File { path, .. }) = FILE.with(|file| file.borrow_mut().take()) {
+        let _ = path.parent().map(std::fs::remove_dir_all);
+    }
 }
 
+/// The log file, holding this text.
 fn written(text: &str) -> PathBuf {
-    let path = file();
-    std::fs::write(&path, text).unwrap_or_else(|e| fault(&format!("{}: {e}", path.display())));
-    path
+    with_file(|file| {
+        if file.held.as_deref() != Some(text) {
+            std::fs::write(&file.path, text).unwrap_or_else(|e| fault(&format!("{}: {e}", file.path.display())));
+            let held = file.held.get_or_insert_default();
+            held.clear();
+            held.push_str(text);
+        }
+        file.path.clone()
+    })
+}
+
+/// The log file's text, after the original may have appended to it.
+fn appended_to(path: &std::path::Path) -> String {
+    let text = std::fs::read_to_string(path).unwrap_or_else(|e| fault(&format!("{}: {e}", path.display())));
+    with_file(|file| file.held = Some(text.clone()));
+    text
+}
+
+/// The checkpoints 1 to 17, read by their names in the enum.
+fn checkpoints() -> &'static [Checkpoint; 17] {
+    static ALL: OnceLock<[Checkpoint; 17]> = OnceLock::new();
+    let read = |name: &str| serde_json::from_value(serde_json::Value::String(name.into())).unwrap_or_else(|_| fault("a checkpoint"));
+    ALL.get_or_init(|| CHECKPOINTS.map(read))
 }
 
 /// Checkpoint 1 to 17 by its name in the enum.
@@ -93,9 +121,13 @@ fn numbered(checkpoint: &str) -> u32 {
 
 /// validate_checkpoints_from_parsed: refusal, event counted from 1, checkpoint; 0 where unused.
 pub fn verdict(book: &Book) -> Ran<(u32, u32, u32)> {
-    let text = json::lines(book, Texts::of(book), false);
+    verdict_on(&json::lines(book, Texts::of(book), false))
+}
+
+/// The same of the book's JSON lines.
+pub(crate) fn verdict_on(text: &str) -> Ran<(u32, u32, u32)> {
     let result = ran(|| {
-        let events = audit::parse_audit_events_from_str(&text)?;
+        let events = audit::parse_audit_events_from_str(text)?;
         audit::validate_checkpoints_from_parsed(&events)
     })?;
     Ok(verdict_of(result))
@@ -143,8 +175,13 @@ pub struct Recovered {
 /// reconstruct_state on a file that holds the book's events. A time that no event set is the caller's.
 pub fn recover(book: &Book, time: i64) -> Ran<Recovered> {
     let texts = Texts::of(book);
-    let (plain, action, _) = reconstruct(&json::lines(book, texts, false))?;
-    let (tagged, _, set) = reconstruct(&json::lines(book, texts, true))?;
+    recover_on(book, texts, &json::lines(book, texts, false), &json::lines(book, texts, true), time)
+}
+
+/// The same with the book's JSON lines, as they are and tagged.
+pub(crate) fn recover_on(book: &Book, texts: Texts, plain: &str, tagged: &str, time: i64) -> Ran<Recovered> {
+    let (plain, action, _) = reconstruct(plain)?;
+    let (tagged, _, set) = reconstruct(tagged)?;
     let state = state_of(&tagged, time, set);
     same_texts(book, texts, &plain, &state);
     Ok(Recovered { state, action: action_number(action), in_domain: texts == Texts::Plain, time_set: set, plain })
@@ -212,7 +249,7 @@ fn state_of(from: &RecoveredState, time: i64, set: bool) -> State {
 
 fn marks_of(from: &RecoveredState, time: i64) -> Marks {
     Marks {
-        checkpoint: numbered(&format!("{:?}", from.checkpoint)),
+        checkpoint: checkpoint_out(from.checkpoint),
         number: from.sequence_number,
         time,
         equity: from.equity_cents,
@@ -313,36 +350,61 @@ fn state_in(state: &State) -> RecoveredState {
 }
 
 fn checkpoint_in(number: u32) -> Checkpoint {
-    let name = CHECKPOINTS.get(number.wrapping_sub(1) as usize).unwrap_or_else(|| fault("a checkpoint is 1 to 17"));
-    serde_json::from_value(serde_json::Value::String(name.to_string())).unwrap_or_else(|_| fault("a checkpoint"))
+    *checkpoints().get(number.wrapping_sub(1) as usize).unwrap_or_else(|| fault("a checkpoint is 1 to 17"))
+}
+
+fn checkpoint_out(checkpoint: Checkpoint) -> u32 {
+    match checkpoints().iter().position(|c| *c == checkpoint) {
+        Some(place) => place as u32 + 1,
+        None => fault(&format!("no checkpoint {checkpoint:?}")),
+    }
 }
 
 /// The marks after the first `events` events of the book, as the original has them.
 pub fn marks_after(book: &Book, time: i64, events: usize) -> Ran<Marks> {
-    Ok(recover(&prefix(book, events), time)?.state.marks)
+    let part = Book { events: book.events[..events].to_vec(), rows: book.rows.clone(), text: book.text.clone() };
+    marks_on(&json::lines(&part, Texts::of(&part), false), time)
 }
 
-fn prefix(book: &Book, events: usize) -> Book {
-    let mut part = book.clone();
-    part.events.truncate(events);
-    part
+/// The marks after a log's JSON lines.
+pub(crate) fn marks_on(text: &str, time: i64) -> Ran<Marks> {
+    let (state, _, set) = reconstruct(text)?;
+    Ok(marks_of(&state, if set { state.timestamp.timestamp_millis() } else { time }))
 }
 
 /// The largest counts of orders and positions after any event, for refusal 3, by recovering from the book's prefixes.
-/// Only the three events that replace a list can make a list shorter, so the prefixes before those and the whole decide.
 pub fn peak(book: &Book) -> Ran<(usize, usize)> {
-    let mut cuts = vec![book.events.len()];
+    let text = json::lines(book, Texts::of(book), true);
+    peak_on(book, &text, counts_on(&text)?)
+}
+
+/// The same with the book's JSON lines and the counts after the last. Only the three events that replace a list can make one shorter, so the prefixes before those and the whole
+/// decide; of those, the ones before which an event may have filled that list.
+pub(crate) fn peak_on(book: &Book, text: &str, whole: (usize, usize)) -> Ran<(usize, usize)> {
+    let mut most = whole;
+    let (mut orders, mut positions) = (false, false);
     for (i, event) in book.events.iter().enumerate() {
-        if [&b"diff_computed"[..], b"positions_fetched", b"positions_result"].contains(&book.text_of(event.name)) {
-            cuts.push(i);
+        let filled = match book.text_of(event.name) {
+            b"diff_computed" => std::mem::replace(&mut orders, true),
+            b"positions_fetched" | b"positions_result" => std::mem::replace(&mut positions, true),
+            b"order_intent" => {
+                orders = true;
+                false
+            }
+            _ => false,
+        };
+        if filled {
+            let (orders, positions) = counts_on(json::first(text, i))?;
+            most = (most.0.max(orders), most.1.max(positions));
         }
     }
-    let mut most = (0, 0);
-    for cut in cuts {
-        let (state, _, _) = reconstruct(&json::lines(&prefix(book, cut), Texts::of(book), true))?;
-        most = (most.0.max(state.orders.len()), most.1.max(state.positions.len()));
-    }
     Ok(most)
+}
+
+/// The counts of orders and positions after a log's JSON lines.
+fn counts_on(text: &str) -> Ran<(usize, usize)> {
+    let (state, _, _) = reconstruct(text)?;
+    Ok((state.orders.len(), state.positions.len()))
 }
 
 /// determine_recovery_action of a state.
@@ -353,18 +415,31 @@ pub fn action(state: &State) -> Ran<u32> {
 
 /// max_checkpoint_sequence of a file that holds the book's events.
 pub fn max_checkpoint_sequence(book: &Book) -> Ran<u64> {
-    let path = written(&json::lines(book, Texts::of(book), false));
+    max_on(&json::lines(book, Texts::of(book), false))
+}
+
+/// The same of a file that holds these JSON lines.
+pub(crate) fn max_on(text: &str) -> Ran<u64> {
+    let path = written(text);
     ran(|| audit::max_checkpoint_sequence(&path))?.or_else(|e| fault(&format!("max_checkpoint_sequence: {e:?}")))
 }
 
 /// check_window_already_complete of a file that holds the book's events.
 pub fn window_complete(book: &Book, id: &[u8]) -> Ran<Option<u64>> {
     let texts = if std::str::from_utf8(id).is_ok() { Texts::of(book) } else { Texts::Bytes };
-    let path = written(&json::lines(book, texts, false));
-    let id = texts.string(id);
+    window_on(&json::lines(book, texts, false), &texts.string(id))
+}
+
+/// The same of a file that holds these JSON lines.
+pub(crate) fn window_on(text: &str, id: &str) -> Ran<Option<u64>> {
+    let path = written(text);
+    let open = with_file(|file| file.open.take());
     let result = ran(|| {
         let folder = path.parent().unwrap_or_else(|| fault("the log's folder"));
-        AuditLog::open_in(&path, folder)?.check_window_already_complete(&id)
+        let mut log = open.map_or_else(|| AuditLog::open_in(&path, folder), Ok)?;
+        let said = log.check_window_already_complete(id);
+        with_file(|file| file.open = Some(log));
+        said
     })?;
     result.or_else(|e| fault(&format!("check_window_already_complete: {e:?}")))
 }
@@ -384,6 +459,12 @@ const STATES: [OrderState; 6] = [
     OrderState::Cancelled,
     OrderState::Rejected,
 ];
+
+/// The states' names, as the report has them.
+fn state_names() -> &'static [String; 6] {
+    static NAMES: OnceLock<[String; 6]> = OnceLock::new();
+    NAMES.get_or_init(|| STATES.map(|state| format!("{state:?}")))
+}
 
 impl Broker for SheetBroker<'_> {
     fn open_orders(&self) -> Result<Vec<BrokerOrderStatus>, BrokerError> {
@@ -476,7 +557,7 @@ fn report(state: &RecoveredState, sheet: &Sheet) -> Ran<Vec<(Discrepancy, Option
     }
     let plain = |kind, symbol: Option<&str>, values| (Discrepancy { kind, symbol: symbol.map(symbol_out), values }, None);
     let state_number = |status: &str| {
-        let place = STATES.iter().position(|s| format!("{s:?}") == status);
+        let place = state_names().iter().position(|s| s == status);
         place.unwrap_or_else(|| fault(&format!("no order state {status}"))) as u64
     };
     let one = |d: From| match d {
@@ -539,8 +620,7 @@ pub fn reconcile_recovered(book: &Book, recovered: &Recovered, sheet: &Sheet, qu
 pub fn appended(state: &State, sheet: &Sheet, queries: &[u8]) -> Vec<String> {
     let path = written("");
     reconcile_on(&path, 0, &state_in(state), sheet, queries);
-    let log = std::fs::read_to_string(&path).unwrap_or_else(|e| fault(&format!("{}: {e}", path.display())));
-    log.lines().map(str::to_string).collect()
+    appended_to(&path).lines().map(str::to_string).collect()
 }
 
 /// What the original parses out of one JSON line that holds this value under a key of an event's data.
@@ -562,7 +642,7 @@ pub fn timeless(state: &RecoveredState) -> serde_json::Value {
 fn reconcile_on(path: &std::path::Path, before: usize, state: &RecoveredState, sheet: &Sheet, queries: &[u8]) -> Reconciled {
     let broker = SheetBroker { sheet, queries: Some(queries), asked: Shared::new(0) };
     let result = ran(|| recovery::reconcile_incomplete_intents(&broker, state, path));
-    let log = std::fs::read_to_string(path).unwrap_or_else(|e| fault(&format!("{}: {e}", path.display())));
+    let log = appended_to(path);
     let entries = log[before..].lines().map(json::entry).collect();
     let unreached = result.map(|r| match r {
         Ok(()) => 0,

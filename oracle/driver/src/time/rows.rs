@@ -85,7 +85,7 @@ impl Asked {
     fn judged(&mut self) -> Result<(), String> {
         let number = self.call();
         let rooms: Vec<usize> = self.lent[..self.entry.outputs].iter().map(|l| l.bytes().len()).collect();
-        let due = (self.entry.due)(&self.inputs, &self.numbers, &rooms);
+        let due = (self.entry.due)(&self.inputs, &self.numbers).within(&rooms);
         // Of a refusal that gives no bytes every output is zero.
         let none = Vec::new();
         let bytes = (0..rooms.len()).map(|i| due.outputs.get(i).unwrap_or(&none)).chain([&due.answer]);

@@ -1,8 +1,11 @@
 //! Each entry of the library with the judge's answer to the same inputs.
 
+use std::rc::Rc;
+
 use oracle::doc01::records::{DISCREPANCY, ORDER, POSITION};
 use oracle::doc01::{Book, Marks, Sheet};
 use oracle::judge;
+use oracle::log::Log;
 
 use crate::library::{self, Lent};
 
@@ -38,6 +41,9 @@ impl Due {
     }
 }
 
+/// An input, which several questions may share.
+pub type Bytes = Rc<Vec<u8>>;
+
 #[derive(Clone, Copy)]
 pub struct Entry {
     pub name: &'static str,
@@ -49,8 +55,8 @@ pub struct Entry {
     pub answer: usize,
     /// Whether the last input is lent as the first output, and altered in place.
     pub held: bool,
-    pub due: fn(&[Vec<u8>], &[u64]) -> Due,
-    pub call: fn(&[Vec<u8>], &[u64], &mut [Lent]) -> u32,
+    pub due: fn(&[Bytes], &[u64]) -> Due,
+    pub call: fn(&[Bytes], &[u64], &mut [Lent]) -> u32,
 }
 
 /// The refusal of a question that the judge does not answer.
@@ -89,7 +95,7 @@ pub(crate) fn marks(bytes: &[u8]) -> Result<Marks, u32> {
 }
 
 /// The rooms are tested after each event, so that a room that takes the end's records need not do.
-fn recover(inputs: &[Vec<u8>], times: &[u64]) -> Result<Due, u32> {
+fn recover(inputs: &[Bytes], times: &[u64]) -> Result<Due, u32> {
     let said = judge::reconstruct_state(&inputs[0], times[0] as i64, usize::MAX, usize::MAX)?;
     let (orders, positions) = judge::most_recovered(&inputs[0])?;
     let counts = [(said.orders.len() / ORDER) as u64, (said.positions.len() / POSITION) as u64, said.action as u64];
@@ -97,11 +103,11 @@ fn recover(inputs: &[Vec<u8>], times: &[u64]) -> Result<Due, u32> {
     Ok(Due { refusal: 0, needs: vec![orders * ORDER, positions * POSITION], outputs: vec![said.orders, said.positions], answer })
 }
 
-fn action(inputs: &[Vec<u8>]) -> Result<(u64, u64), u32> {
+fn action(inputs: &[Bytes]) -> Result<(u64, u64), u32> {
     Ok((judge::determine_recovery_action(&marks(&inputs[0])?, &inputs[1])? as u64, 0))
 }
 
-fn equal(inputs: &[Vec<u8>]) -> Result<(u64, u64), u32> {
+fn equal(inputs: &[Bytes]) -> Result<(u64, u64), u32> {
     Book::limits(&inputs[0])?;
     Book::limits(&inputs[4])?;
     let (a, b) = (marks(&inputs[1])?, marks(&inputs[5])?);
@@ -110,33 +116,33 @@ fn equal(inputs: &[Vec<u8>]) -> Result<(u64, u64), u32> {
     Ok((judge::states_equal(x, y)? as u64, 0))
 }
 
-fn compared(inputs: &[Vec<u8>]) -> Result<(Vec<u8>, u64, u64), u32> {
+fn compared(inputs: &[Bytes]) -> Result<(Vec<u8>, u64, u64), u32> {
     Sheet::limits(&inputs[3])?;
     let report = judge::compare_broker_state(&marks(&inputs[0])?, &inputs[1], &inputs[2], &inputs[3], usize::MAX)?;
     let count = (report.len() / DISCREPANCY) as u64;
     Ok((report, count, (count > 0) as u64))
 }
 
-fn replied(inputs: &[Vec<u8>]) -> Due {
+fn replied(inputs: &[Bytes]) -> Due {
     let text = judge::reply(&inputs[0], &inputs[1]).into_bytes();
     let length = text.len() as u64;
     written(Ok((text, length, 0)))
 }
 
-fn drifted(inputs: &[Vec<u8>], numbers: &[u64]) -> Result<(Vec<u8>, u64, u64), u32> {
+fn drifted(inputs: &[Bytes], numbers: &[u64]) -> Result<(Vec<u8>, u64, u64), u32> {
     let said = judge::drift(&inputs[0], &inputs[1], &inputs[2], numbers[0] as i64, usize::MAX)?;
     let count = (said.entries.len() / 64) as u64;
     Ok((said.entries, count, said.tracking))
 }
 
 /// The original gives marks after a number of a book's events, so other marks are not judged. Where no event has set the time, it is the marks'.
-fn step(inputs: &[Vec<u8>], numbers: &[u64]) -> Result<(Vec<u8>, u64, u64), u32> {
+fn step(inputs: &[Bytes], numbers: &[u64]) -> Result<(Vec<u8>, u64, u64), u32> {
     Book::limits(&inputs[0])?;
     let marks = marks(&inputs[1])?;
-    let book = Book::parse(&inputs[0])?;
+    let log = Log::of(&inputs[0])?;
     let next = numbers[0] as u32 as usize;
-    if next >= book.events.len() {
-        return Ok((inputs[1].clone(), 0, 0));
+    if next >= log.book.events.len() {
+        return Ok((inputs[1].to_vec(), 0, 0));
     }
     let before = if next == 0 { Marks::begin(marks.time) } else { judge::step(&inputs[0], marks.time, next - 1)?.ok_or(UNJUDGED)? };
     if before != marks {
@@ -145,13 +151,13 @@ fn step(inputs: &[Vec<u8>], numbers: &[u64]) -> Result<(Vec<u8>, u64, u64), u32>
     Ok((judge::step(&inputs[0], marks.time, next)?.ok_or(UNJUDGED)?.bytes(), 1, 0))
 }
 
-fn joined(inputs: &[Vec<u8>], numbers: &[u64]) -> Result<(Vec<u8>, u64, u64), u32> {
+fn joined(inputs: &[Bytes], numbers: &[u64]) -> Result<(Vec<u8>, u64, u64), u32> {
     let book = judge::join(&inputs[0], &inputs[1], numbers[0], usize::MAX)?;
     let length = book.len() as u64;
     Ok((book, length, 0))
 }
 
-fn reconciled(inputs: &[Vec<u8>], times: &[u64]) -> Result<Due, u32> {
+fn reconciled(inputs: &[Bytes], times: &[u64]) -> Result<Due, u32> {
     Sheet::limits(&inputs[2])?;
     let marks = marks(&inputs[0])?;
     let said = judge::reconcile_incomplete_intents(&marks, &inputs[1], &inputs[2], &inputs[3], times[0] as i64, usize::MAX)?;
@@ -160,7 +166,7 @@ fn reconciled(inputs: &[Vec<u8>], times: &[u64]) -> Result<Due, u32> {
 }
 
 /// Recovery, reconciling on what it gave, and the join; a call that is refused refuses the round.
-fn round(inputs: &[Vec<u8>], said: &[u64]) -> Result<Due, u32> {
+fn round(inputs: &[Bytes], said: &[u64]) -> Result<Due, u32> {
     let recovered = recover(&inputs[..1], &said[..1])?;
     let marks = marks(&recovered.answer[..176])?;
     let settled = judge::reconcile_incomplete_intents(&marks, &recovered.outputs[0], &inputs[1], &inputs[2], said[1] as i64, usize::MAX);
@@ -186,7 +192,7 @@ pub(crate) fn rounded(recovered: Due, settled: Result<judge::Addendum, u32>, boo
     }
 }
 
-fn verdict(inputs: &[Vec<u8>]) -> Due {
+fn verdict(inputs: &[Bytes]) -> Due {
     let (refusal, event, checkpoint) = judge::validate_checkpoints_from_parsed(&inputs[0]);
     Due { answer: numbers(&[event as u64, checkpoint as u64]), ..refused(refusal) }
 }
@@ -198,7 +204,7 @@ pub static CHECK_BOOK: Entry = Entry {
     outputs: 0,
     answer: 0,
     held: false,
-    due: |inputs, _| refused(Book::parse(&inputs[0]).err().unwrap_or(0)),
+    due: |inputs, _| refused(judge::check_book(&inputs[0]).err().unwrap_or(0)),
     call: library::desk_check_book,
 };
 

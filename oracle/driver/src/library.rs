@@ -1,6 +1,8 @@
 //! The library's entries through its C boundary: slices go as a pointer and a length, an empty one as a null pointer. Outputs are lent as bytes that hold
 //! garbage, with garbage on both sides.
 
+use crate::entries::Bytes;
+
 const GARBAGE: u8 = 0xa5;
 const BESIDE: usize = 32;
 
@@ -55,7 +57,7 @@ fn written(lent: &mut Lent) -> *mut u8 {
 macro_rules! entry {
     ($name:ident ( $($input:ident),* ; $($number:ident : $of:ty),* ; $($output:ident),* )) => {
         // Safe: each pointer is to as many bytes as its length says, which nothing else holds during the call; null where there are none.
-        pub fn $name(inputs: &[Vec<u8>], numbers: &[u64], outputs: &mut [Lent]) -> u32 {
+        pub fn $name(inputs: &[Bytes], numbers: &[u64], outputs: &mut [Lent]) -> u32 {
             extern "C" {
                 fn $name($($input: *const u8, _: usize,)* $($number: $of,)* $($output: *mut u8, _: usize),*) -> u32;
             }
@@ -96,7 +98,7 @@ entry!(desk_f64_cents_checked(; value: u64; answer));
 pub const PLAIN: usize = 64;
 
 /// The entries without slices, all asked with one number; their answers one behind the other, as if lent.
-pub fn plain(_: &[Vec<u8>], numbers: &[u64], outputs: &mut [Lent]) -> u32 {
+pub fn plain(_: &[Bytes], numbers: &[u64], outputs: &mut [Lent]) -> u32 {
     extern "C" {
         fn desk_f64_bits(bits: u64) -> u64;
         fn desk_is_finite(bits: u64) -> bool;

@@ -3,7 +3,7 @@
 use std::cell::RefCell;
 use std::ops::Deref;
 
-use crate::entries::{Due, Entry, UNJUDGED};
+use crate::entries::{Bytes, Due, Entry, UNJUDGED};
 use crate::library::Lent;
 
 /// Room enough for every output of a case.
@@ -18,7 +18,7 @@ const BEHIND: usize = 4_096;
 #[derive(Clone)]
 pub struct Question {
     pub entry: &'static Entry,
-    pub inputs: Vec<Vec<u8>>,
+    pub inputs: Vec<Bytes>,
     pub numbers: Vec<u64>,
     /// Rooms to try beside those around the exact one.
     pub rooms: Vec<Vec<usize>>,
@@ -95,7 +95,7 @@ pub struct Tally {
 }
 
 impl Question {
-    pub fn new(entry: &'static Entry, inputs: Vec<Vec<u8>>, numbers: Vec<u64>) -> Question {
+    pub fn new(entry: &'static Entry, inputs: Vec<Bytes>, numbers: Vec<u64>) -> Question {
         Question { entry, inputs, numbers, rooms: Vec::new() }
     }
 
@@ -115,7 +115,7 @@ impl Question {
     }
 
     /// The bytes that are altered in place.
-    fn held(&self) -> Option<&Vec<u8>> {
+    fn held(&self) -> Option<&Bytes> {
         self.inputs.last().filter(|_| self.entry.held)
     }
 

@@ -6,7 +6,7 @@ use oracle::doc01::{reading, Book, Marks, Sheet, State};
 use oracle::judge;
 use oracle::original::Reconciled;
 
-use crate::entries::{self, marks, numbers, refused, rounded, two, written, Due, Entry};
+use crate::entries::{self, marks, numbers, refused, rounded, two, written, Bytes, Due, Entry};
 
 /// Every entry of the table, judged quickly.
 pub fn entries() -> Vec<Entry> {
@@ -34,7 +34,7 @@ pub fn entries() -> Vec<Entry> {
     ]
 }
 
-fn verdict(inputs: &[Vec<u8>], _: &[u64]) -> Due {
+fn verdict(inputs: &[Bytes], _: &[u64]) -> Due {
     match Book::parse(&inputs[0]) {
         Ok(book) => {
             let (refusal, event, checkpoint) = reading::verdict(&book);
@@ -44,7 +44,7 @@ fn verdict(inputs: &[Vec<u8>], _: &[u64]) -> Due {
     }
 }
 
-fn window(inputs: &[Vec<u8>]) -> Result<(u64, u64), u32> {
+fn window(inputs: &[Bytes]) -> Result<(u64, u64), u32> {
     let number = reading::window_complete(&Book::parse(&inputs[0])?, &inputs[1]);
     Ok((number.is_some() as u64, number.unwrap_or(0)))
 }
@@ -55,7 +55,7 @@ fn recover(book: &[u8], time: i64) -> Result<(State, (usize, usize)), u32> {
     Ok(reading::recover(&book, time))
 }
 
-fn recovered(inputs: &[Vec<u8>], times: &[u64]) -> Result<Due, u32> {
+fn recovered(inputs: &[Bytes], times: &[u64]) -> Result<Due, u32> {
     let (state, most) = recover(&inputs[0], times[0] as i64)?;
     Ok(of_state(&state, most))
 }
@@ -67,17 +67,17 @@ fn of_state(state: &State, most: (usize, usize)) -> Due {
 }
 
 /// Any marks are judged here, also those that no log leaves.
-fn step(inputs: &[Vec<u8>], numbers: &[u64]) -> Result<(Vec<u8>, u64, u64), u32> {
+fn step(inputs: &[Bytes], numbers: &[u64]) -> Result<(Vec<u8>, u64, u64), u32> {
     Book::limits(&inputs[0])?;
     let marks = marks(&inputs[1])?;
     let book = Book::parse(&inputs[0])?;
     match book.events.get(numbers[0] as u32 as usize) {
         Some(event) => Ok((reading::step(&book, &marks, event).bytes(), 1, 0)),
-        None => Ok((inputs[1].clone(), 0, 0)),
+        None => Ok((inputs[1].to_vec(), 0, 0)),
     }
 }
 
-fn replied(inputs: &[Vec<u8>]) -> Due {
+fn replied(inputs: &[Bytes]) -> Due {
     let said = |book: &Book, sheet: &Sheet| {
         let (state, _) = reading::recover(book, 0);
         Said { verdict: reading::verdict(book), action: reading::action(&state), report: reading::report(&state, sheet), state }
@@ -95,14 +95,14 @@ fn settled(marks: &Marks, orders: &[u8], sheet: &[u8], queries: &[u8], time: i64
     judge::reconciled_by(asked, marks, orders, sheet, queries, time, usize::MAX)
 }
 
-fn reconciled(inputs: &[Vec<u8>], times: &[u64]) -> Result<Due, u32> {
+fn reconciled(inputs: &[Bytes], times: &[u64]) -> Result<Due, u32> {
     Sheet::limits(&inputs[2])?;
     let said = settled(&marks(&inputs[0])?, &inputs[1], &inputs[2], &inputs[3], times[0] as i64)?;
     let answer = numbers(&[said.entries, said.unreached, said.book.len() as u64]);
     Ok(Due::said(vec![said.book], answer))
 }
 
-fn round(inputs: &[Vec<u8>], said: &[u64]) -> Result<Due, u32> {
+fn round(inputs: &[Bytes], said: &[u64]) -> Result<Due, u32> {
     let (state, most) = recover(&inputs[0], said[0] as i64)?;
     let settled = settled(&state.marks, &state.order_bytes(), &inputs[1], &inputs[2], said[1] as i64);
     Ok(rounded(of_state(&state, most), settled, &inputs[0], said[2]))

@@ -90,7 +90,7 @@ fn candidate(question: &Question, input: usize, step: usize) -> Option<Option<Qu
     let bytes = smaller(question.entry.inputs[input], &question.inputs[input], step)?;
     Some(bytes.map(|bytes| {
         let mut next = question.clone();
-        next.inputs[input] = bytes;
+        next.inputs[input] = bytes.into();
         next
     }))
 }

@@ -1,6 +1,6 @@
 //! A fuzzed input: the entry, the rooms to try, the numbers and the lent slices.
 
-use driver::entries::Entry;
+use driver::entries::{Bytes, Entry};
 use driver::question::Question;
 
 #[derive(Clone)]
@@ -53,7 +53,7 @@ impl Input {
 
     pub fn question(&self, entries: &'static [Entry]) -> Question {
         let entry = &entries[self.entry];
-        let question = Question::new(entry, self.slices.clone(), self.numbers.clone());
+        let question = Question::new(entry, self.slices.iter().cloned().map(Bytes::new).collect(), self.numbers.clone());
         if entry.outputs == 0 {
             return question;
         }

@@ -27,7 +27,8 @@ pub fn write(folder: &str) {
             for (i, question) in questions(kind, 1, number).unwrap_or_else(|e| panic!("{e}")).into_iter().enumerate() {
                 let entry = entries().iter().position(|e| e.name == question.entry.name).expect("an entry of the table");
                 let room = question.rooms.first().and_then(|rooms| rooms.first()).map_or(64, |room| (*room).min(u16::MAX as usize) as u16);
-                let input = Input { entry, pick: (number + i as u64) as u8, room, numbers: question.numbers, slices: question.inputs };
+                let slices = question.inputs.iter().map(|slice| slice.to_vec()).collect();
+                let input = Input { entry, pick: (number + i as u64) as u8, room, numbers: question.numbers, slices };
                 let quick = input.question(entries());
                 if let Some(what) = judges_differ(&input, &quick, &quick.ample()) {
                     driver::smallest::print(&quick, None);

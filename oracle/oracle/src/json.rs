@@ -4,7 +4,7 @@
 //! original's domain; it is then written with each byte of each text as one character (U+0000 to U+00FF), which keeps
 //! which texts are equal and which parse as symbols, so that the original's answer is the one by bytes.
 
-use chrono::{SecondsFormat, TimeZone, Utc};
+use chrono::{Datelike, TimeZone, Timelike, Utc};
 use doc01::book::{Book, Cell, Row, TextRef, ACTION, CELLS, CLIENT, POSITIONS, REASON};
 use doc01::entries::{Entry, Value};
 use std::fmt::Write;
@@ -76,8 +76,7 @@ pub fn lines(book: &Book, texts: Texts, tagged: bool) -> String {
     for event in &book.events {
         lines.out.push('{');
         lines.text("event", event.name);
-        let time = Utc.timestamp_millis_opt(event.time).single().unwrap_or_else(|| fault("an event's time"));
-        write!(lines.out, ",\"ts\":\"{}\"", time.to_rfc3339_opts(SecondsFormat::Millis, true)).expect("a String takes it");
+        lines.time(event.time);
         if let Some(number) = event.number {
             write!(lines.out, ",\"sequence_number\":{number}").expect("a String takes it");
         }
@@ -90,14 +89,44 @@ pub fn lines(book: &Book, texts: Texts, tagged: bool) -> String {
 }
 
 impl Lines<'_> {
+    /// The time in milliseconds as RFC 3339 has it.
+    fn time(&mut self, millis: i64) {
+        let time = Utc.timestamp_millis_opt(millis).single().unwrap_or_else(|| fault("an event's time"));
+        self.out.push_str(",\"ts\":\"");
+        let date = [(time.year() as u32, 4, '-'), (time.month(), 2, '-'), (time.day(), 2, 'T')];
+        let clock = [(time.hour(), 2, ':'), (time.minute(), 2, ':'), (time.second(), 2, '.'), (time.timestamp_subsec_millis(), 3, 'Z')];
+        for (number, digits, behind) in date.into_iter().chain(clock) {
+            for place in (0..digits).rev() {
+                self.out.push((b'0' + (number / 10u32.pow(place) % 10) as u8) as char);
+            }
+            self.out.push(behind);
+        }
+        self.out.push('"');
+    }
+
+    fn key(&mut self, key: &str) {
+        self.out.push('"');
+        self.out.push_str(key);
+        self.out.push_str("\":");
+    }
+
     fn string(&mut self, text: &str) {
-        self.out.push_str(&serde_json::to_string(text).expect("a string is JSON"));
+        if text.bytes().all(|b| (b' '..=b'~').contains(&b) && b != b'"' && b != b'\\') {
+            self.out.push('"');
+            self.out.push_str(text);
+            self.out.push('"');
+        } else {
+            self.out.push_str(&serde_json::to_string(text).expect("a string is JSON"));
+        }
     }
 
     fn text(&mut self, key: &str, at: TextRef) {
-        let text = self.texts.string(self.book.text_of(at));
-        write!(self.out, "\"{key}\":").expect("a String takes it");
-        self.string(&text);
+        let bytes = self.book.text_of(at);
+        self.key(key);
+        match (self.texts, std::str::from_utf8(bytes)) {
+            (Texts::Plain, Ok(text)) => self.string(text),
+            (texts, _) => self.string(&texts.string(bytes)),
+        }
     }
 
     /// A cell of an event, by its place.
@@ -105,7 +134,9 @@ impl Lines<'_> {
         match *cell {
             Cell::None => {}
             Cell::List { first, count } => {
-                write!(self.out, ",\"{key}\":[").expect("a String takes it");
+                self.out.push(',');
+                self.key(key);
+                self.out.push('[');
                 let book = self.book;
                 for (i, row) in book.list(first, count).iter().enumerate() {
                     if i > 0 {
@@ -145,7 +176,7 @@ impl Lines<'_> {
     fn plain(&mut self, key: &str, cell: &Cell, tagged: bool) {
         match *cell {
             Cell::Text(at) if !tagged => return self.text(key, at),
-            _ => write!(self.out, "\"{key}\":").expect("a String takes it"),
+            _ => self.key(key),
         }
         match *cell {
             Cell::Int(i) => write!(self.out, "{i}").expect("a String takes it"),

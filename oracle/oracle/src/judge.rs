@@ -5,6 +5,7 @@
 //! holds the bytes given here and zeros behind them, or zeros alone on a refusal.
 
 use std::cell::RefCell;
+use std::rc::Rc;
 
 use doc01::drift as rows;
 use doc01::join::join as joined;
@@ -26,6 +27,11 @@ fn room(needed: usize, lent: usize) -> Result<(), Refusal> {
     } else {
         Ok(())
     }
+}
+
+/// The layout of a book alone.
+pub fn check_book(book: &[u8]) -> Result<(), Refusal> {
+    Log::of(book).map(|_| ())
 }
 
 /// Refusal, event, checkpoint.
@@ -171,7 +177,7 @@ pub fn reconciled_by(
 pub fn join(a: &[u8], b: &[u8], k: u64, book_room: usize) -> Result<Vec<u8>, Refusal> {
     Book::limits(a)?;
     Book::limits(b)?;
-    let result = joined(&Book::parse(a)?, &Book::parse(b)?, k)?;
+    let result = joined(&Log::of(a)?.book, &Log::of(b)?.book, k)?;
     room(result.length(), book_room)?;
     Ok(result.bytes())
 }
@@ -189,17 +195,17 @@ pub struct Lent<'a> {
 pub fn states_equal(x: Lent, y: Lent) -> Result<bool, Refusal> {
     Book::limits(x.book)?;
     Book::limits(y.book)?;
-    let parse = |l: Lent| -> Result<(Book, State), Refusal> {
-        let book = Book::parse(l.book)?;
+    let parse = |l: Lent| -> Result<(Rc<Log>, State), Refusal> {
+        let log = Log::of(l.book)?;
         let state = State { marks: *l.marks, orders: records::orders(l.orders)?, positions: records::positions(l.positions)? };
-        if !state.within(book.text.len()) {
+        if !state.within(log.book.text.len()) {
             return Err(2);
         }
-        Ok((book, state))
+        Ok((log, state))
     };
     let (a, x) = parse(x)?;
     let (b, y) = parse(y)?;
-    Ok(records::equal(&a, &x, &b, &y))
+    Ok(records::equal(&a.book, &x, &b.book, &y))
 }
 
 pub fn max_checkpoint_sequence(book: &[u8]) -> Result<u64, Refusal> {

@@ -11,7 +11,7 @@ use crate::original::{self, Ran, Recovered};
 pub struct Log {
     bytes: Vec<u8>,
     pub book: Book,
-    texts: Texts,
+    texts: OnceCell<Texts>,
     plain: OnceCell<String>,
     tagged: OnceCell<String>,
     verdict: OnceCell<Ran<(u32, u32, u32)>>,
@@ -22,35 +22,46 @@ pub struct Log {
     marks: RefCell<Vec<(i64, usize, Ran<Marks>)>>,
 }
 
+/// How many logs are kept.
+const KEPT: usize = 4;
+
 thread_local! {
-    static LAST: RefCell<Option<Rc<Log>>> = const { RefCell::new(None) };
+    /// The logs asked for last, the latest first.
+    static LAST: RefCell<Vec<Rc<Log>>> = const { RefCell::new(Vec::new()) };
 }
 
 impl Log {
-    /// The log of a book's bytes; the last one is kept.
+    /// The log of a book's bytes.
     pub fn of(bytes: &[u8]) -> Result<Rc<Log>, Refusal> {
         LAST.with(|last| {
             let mut last = last.borrow_mut();
-            match &*last {
-                Some(log) if log.bytes == bytes => Ok(log.clone()),
-                _ => Ok(last.insert(Rc::new(Log::new(bytes)?)).clone()),
+            match last.iter().position(|log| log.bytes == bytes) {
+                Some(place) => last[..=place].rotate_right(1),
+                None => {
+                    last.insert(0, Rc::new(Log::new(bytes)?));
+                    last.truncate(KEPT);
+                }
             }
+            Ok(last[0].clone())
         })
     }
 
     fn new(bytes: &[u8]) -> Result<Log, Refusal> {
         let book = Book::parse(bytes)?;
-        let texts = Texts::of(&book);
-        let (plain, tagged, verdict, max, recovered, peak, marks) = Default::default();
+        let (texts, plain, tagged, verdict, max, recovered, peak, marks) = Default::default();
         Ok(Log { bytes: bytes.to_vec(), book, texts, plain, tagged, verdict, max, recovered, peak, marks })
     }
 
+    fn texts(&self) -> Texts {
+        *self.texts.get_or_init(|| Texts::of(&self.book))
+    }
+
     fn plain(&self) -> &str {
-        self.plain.get_or_init(|| json::lines(&self.book, self.texts, false))
+        self.plain.get_or_init(|| json::lines(&self.book, self.texts(), false))
     }
 
     fn tagged(&self) -> &str {
-        self.tagged.get_or_init(|| json::lines(&self.book, self.texts, true))
+        self.tagged.get_or_init(|| json::lines(&self.book, self.texts(), true))
     }
 
     pub fn verdict(&self) -> Ran<(u32, u32, u32)> {
@@ -63,14 +74,14 @@ impl Log {
 
     pub fn window_complete(&self, id: &[u8]) -> Ran<Option<u64>> {
         match std::str::from_utf8(id) {
-            Ok(_) => original::window_on(self.plain(), &self.texts.string(id)),
+            Ok(_) => original::window_on(self.plain(), &self.texts().string(id)),
             Err(_) => original::window_complete(&self.book, id),
         }
     }
 
     /// What the original recovers; a time that no event set is 0.
     pub fn recovered(&self) -> &Ran<Recovered> {
-        self.recovered.get_or_init(|| original::recover_on(&self.book, self.texts, self.plain(), self.tagged(), 0))
+        self.recovered.get_or_init(|| original::recover_on(&self.book, self.texts(), self.plain(), self.tagged(), 0))
     }
 
     /// The recovered state and the action, at the caller's time.
@@ -101,7 +112,7 @@ impl Log {
         if let Some((_, _, marks)) = known.iter().find(|(t, e, _)| (*t, *e) == (time, events)) {
             return marks.clone();
         }
-        let marks = match self.texts {
+        let marks = match self.texts() {
             Texts::Plain => original::marks_on(json::first(self.plain(), events), time),
             Texts::Bytes => original::marks_after(&self.book, time, events),
         };

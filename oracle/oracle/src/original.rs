@@ -11,6 +11,7 @@ use doc01::entries::{addendum, Entry};
 use doc01::records::{FAILED, FILLED, HAS_ID, HAS_REASON, SUBMITTED};
 use doc01::{Book, Discrepancy, Marks, Order, Position, Sheet, State, TextRef, CHECKPOINTS};
 use nanobook::Symbol;
+use nosleep::fs::{lend, lend_none};
 use nanobook_broker::{Account, Broker, BrokerError, BrokerOrder, BrokerOrderStatus, OrderId, OrderState, Quote};
 use rebalancer::audit::{self, AuditLog, Checkpoint};
 use rebalancer::diff::CurrentPosition;
@@ -30,8 +31,6 @@ pub type Ran<T> = Result<T, Panicked>;
 /// The log file that the original is given, in a folder of its own.
 struct File {
     path: PathBuf,
-    /// What it holds, where that is known, so that the same text is written once.
-    held: Option<String>,
     /// The original's log on it, once it is asked for.
     open: Option<AuditLog>,
 }
@@ -71,7 +70,7 @@ fn with_file<T>(put: impl FnOnce(&mut File) -> T) -> T {
             let base = if memory.is_dir() { memory } else { std::env::temp_dir() };
             let folder = base.join(format!("oracle-{}-{:?}", std::process::id(), std::thread::current().id()));
             std::fs::create_dir_all(&folder).unwrap_or_else(|e| fault(&format!("{}: {e}", folder.display())));
-            File { path: folder.join("audit.jsonl"), held: None, open: None }
+            File { path: folder.join("audit.jsonl"), open: None }
         });
         put(file)
     })
@@ -79,29 +78,25 @@ fn with_file<T>(put: impl FnOnce(&mut File) -> T) -> T {
 
 /// Removes this thread's log file and its folder.
 pub fn clean() {
+    lend_none();
     if let Some(File { path, .. }) = FILE.with(|file| file.borrow_mut().take()) {
         let _ = path.parent().map(std::fs::remove_dir_all);
     }
 }
 
-/// The log file, holding this text.
-fn written(text: &str) -> PathBuf {
-    with_file(|file| {
-        if file.held.as_deref() != Some(text) {
-            std::fs::write(&file.path, text).unwrap_or_else(|e| fault(&format!("{}: {e}", file.path.display())));
-            let held = file.held.get_or_insert_default();
-            held.clear();
-            held.push_str(text);
-        }
-        file.path.clone()
-    })
+/// The log file, where a read gives this text.
+fn lent(text: &str) -> PathBuf {
+    let path = with_file(|file| file.path.clone());
+    lend(&path, text);
+    path
 }
 
-/// The log file's text, after the original may have appended to it.
-fn appended_to(path: &std::path::Path) -> String {
-    let text = std::fs::read_to_string(path).unwrap_or_else(|e| fault(&format!("{}: {e}", path.display())));
-    with_file(|file| file.held = Some(text.clone()));
-    text
+/// The log file, holding this text, for the original to append to.
+fn written(text: &str) -> PathBuf {
+    lend_none();
+    let path = with_file(|file| file.path.clone());
+    std::fs::write(&path, text).unwrap_or_else(|e| fault(&format!("{}: {e}", path.display())));
+    path
 }
 
 /// The checkpoints 1 to 17, read by their names in the enum.
@@ -189,7 +184,7 @@ pub(crate) fn recover_on(book: &Book, texts: Texts, plain: &str, tagged: &str, t
 
 /// The original's state, its action, and whether an event set its time.
 fn reconstruct(text: &str) -> Ran<(RecoveredState, RecoveryAction, bool)> {
-    let path = written(text);
+    let path = lent(text);
     let before = Utc::now();
     let result = ran(|| recovery::reconstruct_state(&path))?;
     let after = Utc::now();
@@ -420,7 +415,7 @@ pub fn max_checkpoint_sequence(book: &Book) -> Ran<u64> {
 
 /// The same of a file that holds these JSON lines.
 pub(crate) fn max_on(text: &str) -> Ran<u64> {
-    let path = written(text);
+    let path = lent(text);
     ran(|| audit::max_checkpoint_sequence(&path))?.or_else(|e| fault(&format!("max_checkpoint_sequence: {e:?}")))
 }
 
@@ -432,7 +427,7 @@ pub fn window_complete(book: &Book, id: &[u8]) -> Ran<Option<u64>> {
 
 /// The same of a file that holds these JSON lines.
 pub(crate) fn window_on(text: &str, id: &str) -> Ran<Option<u64>> {
-    let path = written(text);
+    let path = lent(text);
     let open = with_file(|file| file.open.take());
     let result = ran(|| {
         let folder = path.parent().unwrap_or_else(|| fault("the log's folder"));
@@ -620,7 +615,8 @@ pub fn reconcile_recovered(book: &Book, recovered: &Recovered, sheet: &Sheet, qu
 pub fn appended(state: &State, sheet: &Sheet, queries: &[u8]) -> Vec<String> {
     let path = written("");
     reconcile_on(&path, 0, &state_in(state), sheet, queries);
-    appended_to(&path).lines().map(str::to_string).collect()
+    let log = std::fs::read_to_string(&path).unwrap_or_else(|e| fault(&format!("{}: {e}", path.display())));
+    log.lines().map(str::to_string).collect()
 }
 
 /// What the original parses out of one JSON line that holds this value under a key of an event's data.
@@ -642,7 +638,7 @@ pub fn timeless(state: &RecoveredState) -> serde_json::Value {
 fn reconcile_on(path: &std::path::Path, before: usize, state: &RecoveredState, sheet: &Sheet, queries: &[u8]) -> Reconciled {
     let broker = SheetBroker { sheet, queries: Some(queries), asked: Shared::new(0) };
     let result = ran(|| recovery::reconcile_incomplete_intents(&broker, state, path));
-    let log = appended_to(path);
+    let log = std::fs::read_to_string(path).unwrap_or_else(|e| fault(&format!("{}: {e}", path.display())));
     let entries = log[before..].lines().map(json::entry).collect();
     let unreached = result.map(|r| match r {
         Ok(()) => 0,

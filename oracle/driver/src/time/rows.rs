@@ -11,7 +11,7 @@ use rebalancer::recovery::Discrepancy;
 use rebalancer::{audit, reconcile, recovery};
 
 use super::inputs::{self, Folder, Lists, Log, FLOATS};
-use driver::entries::{self, Entry};
+use driver::entries::{self, Bytes, Entry};
 use driver::library::Lent;
 
 /// Each row and its inputs. A number is a count of events, for a comparison of orders, for drift of rows.
@@ -60,7 +60,7 @@ impl Row {
 /// A question to the library, with the bytes that it is lent.
 struct Asked {
     entry: &'static Entry,
-    inputs: Vec<Vec<u8>>,
+    inputs: Vec<Bytes>,
     numbers: Vec<u64>,
     lent: Vec<Lent>,
 }
@@ -68,7 +68,7 @@ struct Asked {
 impl Asked {
     fn new(entry: &'static Entry, inputs: Vec<Vec<u8>>, numbers: Vec<u64>, rooms: &[usize]) -> Asked {
         let lent = rooms.iter().chain([&entry.answer]).map(|room| Lent::new(*room)).collect();
-        Asked { entry, inputs, numbers, lent }
+        Asked { entry, inputs: inputs.into_iter().map(Bytes::new).collect(), numbers, lent }
     }
 
     fn call(&mut self) -> u32 {

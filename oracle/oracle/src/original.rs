@@ -3,7 +3,7 @@
 
 use std::cell::{Cell as Shared, RefCell};
 use std::panic::{catch_unwind, resume_unwind, AssertUnwindSafe};
-use std::path::PathBuf;
+use std::path::{Path, PathBuf};
 use std::sync::{Once, OnceLock};
 
 use chrono::{TimeZone, Utc};
@@ -31,6 +31,8 @@ pub type Ran<T> = Result<T, Panicked>;
 /// The log file that the original is given, in a folder of its own.
 struct File {
     path: PathBuf,
+    /// Whether it is known to be empty.
+    empty: bool,
     /// The original's log on it, once it is asked for.
     open: Option<AuditLog>,
 }
@@ -70,7 +72,7 @@ fn with_file<T>(put: impl FnOnce(&mut File) -> T) -> T {
             let base = if memory.is_dir() { memory } else { std::env::temp_dir() };
             let folder = base.join(format!("oracle-{}-{:?}", std::process::id(), std::thread::current().id()));
             std::fs::create_dir_all(&folder).unwrap_or_else(|e| fault(&format!("{}: {e}", folder.display())));
-            File { path: folder.join("audit.jsonl"), open: None }
+            File { path: folder.join("audit.jsonl"), empty: false, open: None }
         });
         put(file)
     })
@@ -94,9 +96,24 @@ fn lent(text: &str) -> PathBuf {
 /// The log file, holding this text, for the original to append to.
 fn written(text: &str) -> PathBuf {
     lend_none();
-    let path = with_file(|file| file.path.clone());
-    std::fs::write(&path, text).unwrap_or_else(|e| fault(&format!("{}: {e}", path.display())));
-    path
+    with_file(|file| {
+        if !(file.empty && text.is_empty()) {
+            std::fs::write(&file.path, text).unwrap_or_else(|e| fault(&format!("{}: {e}", file.path.display())));
+        }
+        file.empty = false;
+        file.path.clone()
+    })
+}
+
+/// What was appended to the log file behind so many bytes.
+fn appended_to(path: &Path, before: usize) -> String {
+    let failed = |e: std::io::Error| -> ! { fault(&format!("{}: {e}", path.display())) };
+    let length = std::fs::metadata(path).unwrap_or_else(|e| failed(e)).len();
+    with_file(|file| file.empty = length == 0);
+    if length == before as u64 {
+        return String::new();
+    }
+    std::fs::read_to_string(path).unwrap_or_else(|e| failed(e)).split_off(before)
 }
 
 /// The checkpoints 1 to 17, read by their names in the enum.
@@ -615,8 +632,7 @@ pub fn reconcile_recovered(book: &Book, recovered: &Recovered, sheet: &Sheet, qu
 pub fn appended(state: &State, sheet: &Sheet, queries: &[u8]) -> Vec<String> {
     let path = written("");
     reconcile_on(&path, 0, &state_in(state), sheet, queries);
-    let log = std::fs::read_to_string(&path).unwrap_or_else(|e| fault(&format!("{}: {e}", path.display())));
-    log.lines().map(str::to_string).collect()
+    appended_to(&path, 0).lines().map(str::to_string).collect()
 }
 
 /// What the original parses out of one JSON line that holds this value under a key of an event's data.
@@ -635,11 +651,10 @@ pub fn timeless(state: &RecoveredState) -> serde_json::Value {
     value
 }
 
-fn reconcile_on(path: &std::path::Path, before: usize, state: &RecoveredState, sheet: &Sheet, queries: &[u8]) -> Reconciled {
+fn reconcile_on(path: &Path, before: usize, state: &RecoveredState, sheet: &Sheet, queries: &[u8]) -> Reconciled {
     let broker = SheetBroker { sheet, queries: Some(queries), asked: Shared::new(0) };
     let result = ran(|| recovery::reconcile_incomplete_intents(&broker, state, path));
-    let log = std::fs::read_to_string(path).unwrap_or_else(|e| fault(&format!("{}: {e}", path.display())));
-    let entries = log[before..].lines().map(json::entry).collect();
+    let entries = appended_to(path, before).lines().map(json::entry).collect();
     let unreached = result.map(|r| match r {
         Ok(()) => 0,
         Err(Error::Recovery(message)) => {

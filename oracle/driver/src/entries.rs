@@ -89,6 +89,11 @@ pub(crate) fn written(said: Result<(Vec<u8>, u64, u64), u32>) -> Due {
     }
 }
 
+/// Written into the held bytes, of which no more are lent.
+pub(crate) fn in_place(said: Result<(Vec<u8>, u64, u64), u32>) -> Due {
+    Due { needs: Vec::new(), ..written(said) }
+}
+
 /// Lent marks; a record that is none is refused by 2, after 1 of whatever is lent beside it.
 pub(crate) fn marks(bytes: &[u8]) -> Result<Marks, u32> {
     Marks::parse(bytes).ok_or(2)
@@ -303,7 +308,7 @@ pub static STEP: Entry = Entry {
     outputs: 1,
     answer: TWO,
     held: true,
-    due: |inputs, numbers| written(step(inputs, numbers)),
+    due: |inputs, numbers| in_place(step(inputs, numbers)),
     call: library::desk_step,
 };
 

@@ -149,7 +149,8 @@ impl Question {
             out.extend([0, answer / 2, answer - 1, answer + 1, answer + 48].map(|last| exact.but(outputs, last)));
         }
         for rooms in &self.rooms {
-            out.push(rooms.iter().zip(&exact[..outputs]).enumerate().fold(exact, |all, (i, (room, exact))| all.but(i, (*room).min(exact + BEHIND))));
+            let near = |all: Rooms, i: usize| all.but(i, rooms[i].min(exact[i] + BEHIND));
+            out.push(if self.entry.held { exact } else { (0..outputs).fold(exact, near) });
         }
         out
     }

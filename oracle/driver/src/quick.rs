@@ -6,7 +6,7 @@ use oracle::doc01::{reading, Book, Marks, Sheet, State};
 use oracle::judge;
 use oracle::original::Reconciled;
 
-use crate::entries::{self, marks, numbers, refused, rounded, two, written, Bytes, Due, Entry};
+use crate::entries::{self, in_place, marks, numbers, refused, rounded, two, written, Bytes, Due, Entry};
 
 /// Every entry of the table, judged quickly.
 pub fn entries() -> Vec<Entry> {
@@ -18,7 +18,7 @@ pub fn entries() -> Vec<Entry> {
         quick(&entries::MAX, |inputs, _| two(Book::parse(&inputs[0]).map(|book| (reading::max_checkpoint_sequence(&book), 0)))),
         quick(&entries::WINDOW, |inputs, _| two(window(inputs))),
         quick(&entries::RECOVER, |inputs, numbers| recovered(inputs, numbers).unwrap_or_else(refused)),
-        quick(&entries::STEP, |inputs, numbers| written(step(inputs, numbers))),
+        quick(&entries::STEP, |inputs, numbers| in_place(step(inputs, numbers))),
         entries::ACTION,
         entries::EQUAL,
         entries::COMPARE,

@@ -44,7 +44,7 @@ type What = (&'static str, u32, u64);
 
 fn what(entry: &'static Entry, due: &Due) -> What {
     let some = |n: u64| (n > 0) as u64;
-    let else_ = match (entry.name, due.refusal) {
+    let more = match (entry.name, due.refusal) {
         ("desk_validate_checkpoints", 6 | 7) => second(due),
         ("desk_reconstruct_state", 0) => word(due, 192),
         ("desk_recovery_action", 0) => first(due),
@@ -54,7 +54,7 @@ fn what(entry: &'static Entry, due: &Due) -> What {
         (_, 0) => some(first(due)),
         _ => 0,
     };
-    (entry.name, due.refusal, else_)
+    (entry.name, due.refusal, more)
 }
 
 fn said((entry, refusal, n): What) -> String {

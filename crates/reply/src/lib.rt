@@ -144,6 +144,17 @@ fn put_short(d: &mut [u8], book: &[u8], sheet: &[u8]) -> Replied
     put_book_in(d, book, sheet, &mut orders, &mut positions, &mut report)
 }
 
+// The same by buffers of which the orders' has room for as many as a book of 65,536 bytes has events.
+fn put_middle(d: &mut [u8], book: &[u8], sheet: &[u8]) -> Replied
+    requires { ⌜ bookLayout (now book) ≡ Layout.Sound ⌝ }
+    ensures { λ x. ⌜ Puts x false (bookText (now (book .entry)) (now (sheet .entry))) (now (d .entry)) (now (d .exit)) ⌝ }
+{
+    let mut orders = [0u8; 17536];
+    let mut positions = [0u8; 8192];
+    let mut report = [0u8; 24576];
+    put_book_in(d, book, sheet, &mut orders, &mut positions, &mut report)
+}
+
 // The same by buffers of 65,536 bytes: where one is too short, refusal 3's line.
 fn put_long(d: &mut [u8], book: &[u8], sheet: &[u8]) -> usize
     requires { ⌜ bookLayout (now book) ≡ Layout.Sound ⌝ }
@@ -158,15 +169,26 @@ fn put_long(d: &mut [u8], book: &[u8], sheet: &[u8]) -> usize
     }
 }
 
-// The lines of a sound book and a sheet, or a refusal's. Short files go by short buffers, and by long ones where those do not suffice.
+// The same by short buffers for short files, and by longer ones for others.
+fn put_tried(d: &mut [u8], book: &[u8], sheet: &[u8]) -> Replied
+    requires { ⌜ bookLayout (now book) ≡ Layout.Sound ⌝ }
+    ensures { λ x. ⌜ Puts x false (bookText (now (book .entry)) (now (sheet .entry))) (now (d .entry)) (now (d .exit)) ⌝ }
+{
+    if 8192 < book.len() + sheet.len() {
+        return put_middle(d, book, sheet);
+    }
+    put_short(d, book, sheet)
+}
+
+// The lines of a sound book and a sheet, or a refusal's. A long sheet goes by long buffers, and so does what the others do not suffice for.
 fn put_book(d: &mut [u8], book: &[u8], sheet: &[u8]) -> usize
     requires { ⌜ bookLayout (now book) ≡ Layout.Sound ⌝ }
     ensures { λ x. ⌜ (x ≡ length (bookText (now (book .entry)) (now (sheet .entry)))) × (now (d .exit) ≡ sets (now (d .entry)) 0 (bookText (now (book .entry)) (now (sheet .entry)))) ⌝ }
 {
-    if 8192 < book.len() + sheet.len() {
+    if 8192 < sheet.len() {
         return put_long(d, book, sheet);
     }
-    match put_short(d, book, sheet) {
+    match put_tried(d, book, sheet) {
         Replied::Done(n) => n,
         Replied::NoRoom => put_long(d, book, sheet),
     }

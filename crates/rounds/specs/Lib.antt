@@ -1,3 +1,2 @@
 pub mod Rounds
 pub mod Between
-pub mod Demand3

@@ -25,10 +25,11 @@ use Rattle.effects.specs.Step.{asFailed}
 use Rattle.state.specs.State.{sameInt, readFlags, textOr, sameTexts, sameOrder, sameLists}
 use Rattle.intents.specs.declared.Chosen.{Chosen}
 use Rattle.intents.specs.declared.Chosen.the-variants as C
-use Rattle.rounds.proofs.JoinEvents.{text-kept}
-use Rattle.rounds.proofs.MovedTables.{and-both}
-use Rattle.rounds.proofs.Settling.{by-bool, settle, Reads, same-refl}
-use Rattle.rounds.proofs.Progress.{Prog, done, keep, shut}
+use Rattle.rounds.proofs.Answers.{by-bool}
+use Rattle.demand3.proofs.JoinEvents.{text-kept}
+use Rattle.demand3.proofs.MovedTables.{and-both}
+use Rattle.demand3.proofs.Settling.{settle, Reads, same-refl}
+use Rattle.demand3.proofs.Progress.{Prog, done, keep, shut}
 
 -- ---- references within a text of n bytes
 abbrev pub RefIn : ℕ → TextRef → Type 0

@@ -33,13 +33,10 @@ use Rattle.effects.specs.Step.{asSubmitted, asFailed, submittedBy, ordersStep, 
 use Rattle.intents.specs.Intents.{symbolText, entryName, reasonText, cellBytes}
 use Rattle.intents.specs.declared.Chosen.{Chosen}
 use Rattle.intents.specs.declared.Chosen.the-variants as C
-use Rattle.rounds.specs.Demand3.{hasSymbol, Follow, Small}
-use Rattle.rounds.proofs.JoinEvents.{text-kept}
-use Rattle.rounds.proofs.Entries.{Texted, entryId, entryReason, entryEvent}
-
-pub by-bool {ℓ} : {X : Type ℓ} (b : Bool) → (b ≡ true → X) → (b ≡ false → X) → X
-by-bool true f g = f refl
-by-bool false f g = g refl
+use Rattle.rounds.proofs.Answers.{by-bool}
+use Rattle.demand3.specs.Demand3.{hasSymbol, Follow, Small}
+use Rattle.demand3.proofs.JoinEvents.{text-kept}
+use Rattle.demand3.proofs.Entries.{Texted, entryId, entryReason, entryEvent}
 
 -- ---- an order that an entry settled; the reason of a failed one reads as the entry's text
 abbrev pub settle : Chosen → AsStr → Order → Order

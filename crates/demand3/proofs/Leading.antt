@@ -20,12 +20,12 @@ use Rattle.recovery.specs.Recover.{State, firstState, steps}
 use Rattle.recovery.proofs.Appended.{steps-append}
 use Rattle.intents.specs.Intents.{ordersMost}
 use Rattle.intents.specs.declared.Chosen.{Chosen}
-use Rattle.rounds.specs.Demand3.{recovered, openIntents}
-use Rattle.rounds.proofs.Entries.{Texted}
-use Rattle.rounds.proofs.Settling.{Written, end, written-more, written-append, written-length}
-use Rattle.rounds.proofs.Progress.{Prog, prog-refl, prog-more, prog-trans, prog-length, openWeight, sum, one, weight-count, sum-one, sum-append, textWeight}
-use Rattle.rounds.proofs.Stepping.{timeless, noted, noted-number, steps-marks, entries-positions}
-use Rattle.rounds.proofs.SoundBook.{events-count}
+use Rattle.demand3.specs.Demand3.{recovered, openIntents}
+use Rattle.demand3.proofs.Entries.{Texted}
+use Rattle.demand3.proofs.Settling.{Written, end, written-more, written-append, written-length}
+use Rattle.demand3.proofs.Progress.{Prog, prog-refl, prog-more, prog-trans, prog-length, openWeight, sum, one, weight-count, sum-one, sum-append, textWeight}
+use Rattle.demand3.proofs.Stepping.{timeless, noted, noted-number, steps-marks, entries-positions}
+use Rattle.demand3.proofs.SoundBook.{events-count}
 
 pub record Led (c : Chosen) (x y : List ℕ) : Type 0 where
   pub bytes : Bytes y

@@ -18,9 +18,10 @@ use Rattle.records.specs.declared.order.Order.{Order}
 use Rattle.effects.specs.Event.{Event}
 use Rattle.intents.specs.Intents.{symbolText, entryName, entryText, entryTexts, query, reconcileOrderIntent, Queried, reachedIf, reached}
 use Rattle.intents.specs.declared.Chosen.{Chosen}
-use Rattle.rounds.specs.Demand3.{hasSymbol, NoRepeat, isEntry, Small}
-use Rattle.rounds.proofs.Entries.{Texted, entryReason, entryEvent}
-use Rattle.rounds.proofs.Settling.{by-bool, settle, Reads, settle-shut, settle-symbol, reads-more, same-sym, same-refl, same-is, text-is, entry-orders, Written, end, more, ordersAfter, skipped, avoid-settled, Among, stop, pass, pick, among-avoid}
+use Rattle.rounds.proofs.Answers.{by-bool}
+use Rattle.demand3.specs.Demand3.{hasSymbol, NoRepeat, isEntry, Small}
+use Rattle.demand3.proofs.Entries.{Texted, entryReason, entryEvent}
+use Rattle.demand3.proofs.Settling.{settle, Reads, settle-shut, settle-symbol, reads-more, same-sym, same-refl, same-is, text-is, entry-orders, Written, end, more, ordersAfter, skipped, avoid-settled, Among, stop, pass, pick, among-avoid}
 
 pub data Prog (c : Chosen) (text : List ℕ) : List Order → List Order → Type 0 where
   done : Prog c text [] []

@@ -31,9 +31,8 @@ use Rattle.state.specs.State.{sameState}
 use Rattle.intents.specs.Intents.{reached, chosen}
 use Rattle.intents.specs.declared.Chosen.{Chosen}
 use Rattle.intents.specs.declared.Chosen.the-variants as C
-use Rattle.rounds.specs.Rounds.{Round, roundOf, next, run}
-use Rattle.rounds.specs.declared.Rounded.{Rounded}
-use Rattle.rounds.specs.declared.Rounded.the-variants.{Done, Oversize, Broken, NoNumbers, TooMany, NoRoom}
+use Rattle.rounds.specs.Rounds.{Round, roundOf, next, run, done}
+use Rattle.rounds.specs.declared.Rounded.the-variants.{NoRoom}
 
 -- ---- recovered, with room for all records; the time is left out of every comparison below
 abbrev pub recovered : List ℕ → State
@@ -77,14 +76,6 @@ Follow n [] = Unit
 Follow n (e ∷ es) = (e .number ≡ N.Is (suc n)) × Follow (suc n) es
 
 -- ---- a round that is not refused; that is written whole; in which an open intent's query was answered
-abbrev pub done : Rounded → Bool
-done (Done n) = true
-done Oversize = false
-done Broken = false
-done NoNumbers = false
-done TooMany = false
-done NoRoom = false
-
 abbrev pub passes : Round → List ℕ → Bool
 passes r log = done (roundOf r log .answer)
 

@@ -1,14 +1,12 @@
 -- The three calls of a round, one by one: what each needs to pass, and what it hands to the next. About no function.
 -- Assumes nothing.
-use Prim.Native.Nat.{ℕ, _+_, _-_, _*_}
+use Prim.Native.Nat.{ℕ, _*_}
 use mathlib.Core.Path.{_≡_, refl, sym, ap, _∙_}
 use mathlib.Core.List.{List, [], _∷_}
-use mathlib.Core.Bool.{Bool, true, false, cond, true≢false, false≢true}
-use native.Mathlib.Omega.{arith}
+use mathlib.Core.Bool.{true, false, cond, false≢true}
 use lib.Dec.{leb, ltb}
 use lib.IntN.{ℤ, pos}
-use lib.ListN.{length, take, replicate}
-use lib.Seq.{take-at}
+use lib.ListN.{length, take}
 use Rattle.wire.specs.Table.{encoded, padded}
 use Rattle.wire.specs.Layout.{bothOf}
 use Rattle.wire.specs.declared.layout.Layout.{Layout}
@@ -17,7 +15,7 @@ use Rattle.wire.proofs.Layouts.{both-sound}
 use Rattle.wire.proofs.Records.{Each, length-encoded}
 use Rattle.wire.proofs.Records as Of
 use Rattle.symbol.specs.declared.Symbol.{Symbol}
-use Rattle.book.specs.Layout.{bookLayout, eventCount, rowCount}
+use Rattle.book.specs.Layout.{bookLayout}
 use Rattle.sheet.specs.Sheet.{sheetLayout, sheetOrders, ordersFailed}
 use Rattle.records.specs.Record.{orderBytes, ordersIn, ordersLayout}
 use Rattle.records.specs.Search.{isIntent, countWhere}
@@ -26,7 +24,7 @@ use Rattle.records.proofs.Orders.{order-size, orders-in, orders-sound}
 use Rattle.marks.specs.declared.Marks.{Marks}
 use Rattle.effects.specs.Event.{eventsOf}
 use Rattle.marks.specs.Action.{actionOf}
-use Rattle.recovery.specs.Recover.{State, firstState, roomy, stateOf, doneIf, refusedOr, recovery, bytesIf, ordersOut}
+use Rattle.recovery.specs.Recover.{firstState, roomy, stateOf, recovery, bytesIf, ordersOut}
 use Rattle.book.specs.Time.{timeLayout}
 use Rattle.recovery.specs.declared.recover.Recovered.{Recovered}
 use Rattle.recovery.specs.declared.recover.Recovery.{Recovery}
@@ -36,51 +34,15 @@ use Rattle.intents.specs.Intents as Lent
 use Rattle.intents.specs.declared.Reconciled.{Reconciled}
 use Rattle.intents.specs.declared.Reconciling.{Reconciling}
 use Rattle.intents.specs.declared.Reconciling.the-variants as Ask
-use Rattle.join.specs.Join.{joined, joinedLength, tooLarge, joinsIf, joining, joinBytesIf, joinOut}
+use Rattle.join.specs.Join.{joinedLength, tooLarge, joining}
 use Rattle.join.specs.declared.Joining.{Joining}
 use Rattle.join.specs.declared.Joining.the-variants as Joins
-use Rattle.rounds.specs.Rounds.{Round, Outcome, afterJoin, joinRound, lentOrders, lentAddendum, afterReconciling, reconcileRound, afterRecovery, roundOf, next}
-use Rattle.rounds.specs.Demand3.{recovered, openIntents, done, passes}
+use Rattle.rounds.specs.Rounds.{Round, Outcome, afterJoin, joinRound, lentOrders, lentAddendum, afterReconciling, reconcileRound, afterRecovery, roundOf, done}
 use Rattle.rounds.specs.declared.Rounded.the-variants.{NoRoom}
-use Rattle.rounds.proofs.Settling.{by-bool}
-use Rattle.rounds.proofs.Stepping.{steps-number, orders-apart}
-use Rattle.rounds.proofs.Spelling.{Good, good-passes}
-
--- ---- a refused round leaves the log as it was
-join-refused : (r : Round) (log b : List ℕ) (v : Joining) → done (afterJoin r log b v .answer) ≡ false → afterJoin r log b v .log ≡ log
-join-refused r log b (Joins.Done n) h = absurd (true≢false h)
-join-refused r log b Joins.Oversize h = refl
-join-refused r log b Joins.Broken h = refl
-join-refused r log b Joins.TooMany h = refl
-join-refused r log b Joins.NoRoom h = refl
-
-reconciling-refused : (r : Round) (log : List ℕ) (x : Recovered) (v : Reconciling) → done (afterReconciling r log x v .answer) ≡ false
-    → afterReconciling r log x v .log ≡ log
-unfolding joinRound
-reconciling-refused r log x (Ask.Done y) h =
-    join-refused r log (lentAddendum r log x y) (joining log (lentAddendum r log x y) (r .k) (r .joined)) h
-reconciling-refused r log x Ask.Oversize h = refl
-reconciling-refused r log x Ask.Broken h = refl
-reconciling-refused r log x Ask.NoNumbers h = refl
-reconciling-refused r log x Ask.NoRoom h = refl
-
-recovery-refused : (r : Round) (log : List ℕ) (v : Recovery) → done (afterRecovery r log v .answer) ≡ false → afterRecovery r log v .log ≡ log
-unfolding reconcileRound
-recovery-refused r log (Rec.Done x) h =
-    reconciling-refused r log x (reconciling (x .marks) (lentOrders r log x) (r .sheet) (r .queries) (r .time) (r .addendum)) h
-recovery-refused r log Rec.Oversize h = refl
-recovery-refused r log Rec.Broken h = refl
-recovery-refused r log Rec.NoRoom h = refl
-
-pub round-refused : (r : Round) (log : List ℕ) → passes r log ≡ false → next r log ≡ log
-unfolding roundOf
-round-refused r log h = recovery-refused r log (recovery log (r .now) (r .orders) (r .positions)) h
-
--- ---- layouts
--- what is read from the front of a buffer
-pub take-padded : (n : ℕ) (s : List ℕ) → take (length s) (padded n s) ≡ s
-unfolding padded
-take-padded n s = take-at s (replicate (n - length s) 0) (length s) refl
+use Rattle.rounds.proofs.Answers.{by-bool, take-padded, done-parts, reconciles-done, never-broken, Joinable, Third, third-passed, joining-is}
+use Rattle.demand3.specs.Demand3.{recovered, openIntents, passes}
+use Rattle.demand3.proofs.Stepping.{steps-number, orders-apart}
+use Rattle.demand3.proofs.Spelling.{Good, good-passes}
 
 -- ---- the first call
 abbrev pub recoveredAt : List ℕ → ℤ → Recovered
@@ -91,12 +53,6 @@ recoveredAt log now =
 pub record First (r : Round) (log : List ℕ) : Type 0 where
   pub now : timeLayout (r .now) ≡ L.Sound
   pub room : roomy (r .orders) (r .positions) (firstState (r .now)) (eventsOf log) ≡ true
-
-pub done-parts : (l : Layout) (b : Bool) (st : State) (x : Recovered) → refusedOr l (doneIf b st) ≡ Rec.Done x → (l ≡ L.Sound) × (b ≡ true)
-done-parts L.Sound true st x h = (refl, refl)
-done-parts L.Sound false st x h = let z : _≡_ {A = ℕ} 0 1 = cc in absurd (omega arith)
-done-parts L.Oversize b st x h = let z : _≡_ {A = ℕ} 0 1 = cc in absurd (omega arith)
-done-parts L.Broken b st x h = let z : _≡_ {A = ℕ} 0 1 = cc in absurd (omega arith)
 
 record Recovering (v : Recovery) : Type 0 where
   given : Recovered
@@ -207,27 +163,6 @@ record Answered (r : Round) (len : ℕ) (os : List Order) (k : ℕ) (a : List �
   room : ltb (r .addendum) (length a) ≡ false
   length : y .length ≡ length a
 
-pub reconciles-done : (l : Layout) (b : Bool) (a : List ℕ) (n m room : ℕ) (y : Reconciled) → reconcilesIf l b a n m room ≡ Ask.Done y
-    → (l ≡ L.Sound) × (b ≡ true) × (tooLarge (length a) n 0 ≡ false) × (ltb room (length a) ≡ false) × (y .length ≡ length a)
-reconciles-done L.Oversize b a n m room y h = let z : _≡_ {A = ℕ} 0 1 = cc in absurd (omega arith)
-reconciles-done L.Broken b a n m room y h = let z : _≡_ {A = ℕ} 0 1 = cc in absurd (omega arith)
-reconciles-done L.Sound false a n m room y h = let z : _≡_ {A = ℕ} 0 1 = cc in absurd (omega arith)
-reconciles-done L.Sound true a n m room y h = by (tooLarge (length a) n 0) (ltb room (length a)) refl refl h
-  where
-    by : (t u : Bool) → tooLarge (length a) n 0 ≡ t → ltb room (length a) ≡ u
-        → cond t Ask.Oversize (cond u Ask.NoRoom (Ask.Done (record { entries = n; unreached = m; length = length a }))) ≡ Ask.Done y
-        → (L.Sound ≡ L.Sound) × (true ≡ true) × (tooLarge (length a) n 0 ≡ false) × (ltb room (length a) ≡ false) × (y .length ≡ length a)
-    by true u p q h = let z : _≡_ {A = ℕ} 0 1 = cc in absurd (omega arith)
-    by false true p q h = let z : _≡_ {A = ℕ} 0 1 = cc in absurd (omega arith)
-    by false false p q h =
-        let e : record { entries = n; unreached = m; length = length a } ≡ y = cc in
-        (refl, refl, p, q, sym (ap (λ (z : Reconciled). z .length) e))
-
-pub never-broken : (l : Layout) (y : Reconciled) (n : ℕ) → reconcilesIf (bothOf l L.Broken) true [] 0 0 n ≡ Ask.Done y → ⊥
-never-broken L.Sound y n h = let z : _≡_ {A = ℕ} 0 1 = cc in omega arith
-never-broken L.Oversize y n h = let z : _≡_ {A = ℕ} 0 1 = cc in omega arith
-never-broken L.Broken y n h = let z : _≡_ {A = ℕ} 0 1 = cc in omega arith
-
 answered : (r : Round) (len : ℕ) (os : List Order) (k : ℕ) (a : List ℕ) (y : Reconciled) → answerBy r len L.Sound os k a ≡ Ask.Done y → Answered r len os k a y
 unfolding answerBy
 answered r len os k a y h =
@@ -327,55 +262,7 @@ module _ (r : Round) (log : List ℕ) (n : ℕ) (s : bookLayout log ≡ L.Sound)
   second-is q =
       ap (afterReconciling r log (recoveredAt log (r .now))) (asked-is ∙ asked-done q) ∙ ap (joinRound r log) (lent-addendum q)
 
--- ---- the third call, on a sound log
-pub record Joinable (r : Round) (log b : List ℕ) : Type 0 where
-  pub sound : bookLayout b ≡ L.Sound
-  pub count : ltb (eventCount b) (r .k) ≡ false
-  pub size : tooLarge (joinedLength log b (r .k)) (eventCount log + r .k) (rowCount log + rowCount b) ≡ false
-
-pub record Third (r : Round) (log b : List ℕ) : Type 0 where
-  pub joinable : Joinable r log b
-  pub room : ltb (r .joined) (joinedLength log b (r .k)) ≡ false
-
-record Joined (v : Joining) : Type 0 where
-  given : ℕ
-  is : v ≡ Joins.Done given
-
-joins : (r : Round) (log b : List ℕ) (v : Joining) → done (afterJoin r log b v .answer) ≡ true → Joined v
-joins r log b (Joins.Done n) h = record { given = n; is = refl }
-joins r log b Joins.Oversize h = absurd (false≢true h)
-joins r log b Joins.Broken h = absurd (false≢true h)
-joins r log b Joins.TooMany h = absurd (false≢true h)
-joins r log b Joins.NoRoom h = absurd (false≢true h)
-
-joins-done : (l : Layout) (a b : List ℕ) (k room n : ℕ) → joinsIf l a b k room ≡ Joins.Done n
-    → (l ≡ L.Sound) × (ltb (eventCount b) k ≡ false) × (tooLarge (joinedLength a b k) (eventCount a + k) (rowCount a + rowCount b) ≡ false)
-    × (ltb room (joinedLength a b k) ≡ false)
-joins-done L.Oversize a b k room n h = let z : _≡_ {A = ℕ} 0 1 = cc in absurd (omega arith)
-joins-done L.Broken a b k room n h = let z : _≡_ {A = ℕ} 0 1 = cc in absurd (omega arith)
-joins-done L.Sound a b k room n h =
-    by (ltb (eventCount b) k) (tooLarge (joinedLength a b k) (eventCount a + k) (rowCount a + rowCount b)) (ltb room (joinedLength a b k)) refl refl refl h
-  where
-    by : (t u v : Bool) → ltb (eventCount b) k ≡ t → tooLarge (joinedLength a b k) (eventCount a + k) (rowCount a + rowCount b) ≡ u
-        → ltb room (joinedLength a b k) ≡ v → cond t Joins.TooMany (cond u Joins.Oversize (cond v Joins.NoRoom (Joins.Done (joinedLength a b k)))) ≡ Joins.Done n
-        → (L.Sound ≡ L.Sound) × (ltb (eventCount b) k ≡ false) × (tooLarge (joinedLength a b k) (eventCount a + k) (rowCount a + rowCount b) ≡ false)
-        × (ltb room (joinedLength a b k) ≡ false)
-    by true u v p q w h = let z : _≡_ {A = ℕ} 0 1 = cc in absurd (omega arith)
-    by false true v p q w h = let z : _≡_ {A = ℕ} 0 1 = cc in absurd (omega arith)
-    by false false true p q w h = let z : _≡_ {A = ℕ} 0 1 = cc in absurd (omega arith)
-    by false false false p q w h = (refl, p, q, w)
-
-pub third-passed : (r : Round) (log b : List ℕ) → bookLayout log ≡ L.Sound → done (joinRound r log b .answer) ≡ true → Third r log b
-unfolding joinRound joining
-third-passed r log b s h =
-    let v = joins r log b (joining log b (r .k) (r .joined)) h in
-    let p = joins-done (bothOf (bookLayout log) (bookLayout b)) log b (r .k) (r .joined) (v .given) (v .is) in
-    record { joinable = record { sound = both-sound (bookLayout log) (bookLayout b) (p .0) .1; count = p .1; size = p .2 }; room = p .3 }
-
-pub joining-is : (r : Round) (log b : List ℕ) → bookLayout log ≡ L.Sound → Third r log b → joining log b (r .k) (r .joined) ≡ Joins.Done (joinedLength log b (r .k))
-unfolding joining
-joining-is r log b s t = rw (s, t .joinable .sound, t .joinable .count, t .joinable .size, t .room)
-
+-- ---- the third call
 -- refused by 3 alone
 joining-full : (r : Round) (log b : List ℕ) → bookLayout log ≡ L.Sound → Joinable r log b → ltb (r .joined) (joinedLength log b (r .k)) ≡ true
     → joining log b (r .k) (r .joined) ≡ Joins.NoRoom
@@ -390,27 +277,6 @@ third-full r log b s t h = ap (λ (v : Joining). afterJoin r log b v .answer) (j
 pub third-done : (r : Round) (log b : List ℕ) → bookLayout log ≡ L.Sound → Third r log b → done (joinRound r log b .answer) ≡ true
 unfolding joinRound
 third-done r log b s t = ap (λ (v : Joining). done (afterJoin r log b v .answer)) (joining-is r log b s t)
-
--- join's result is the next log
-pub third-log : (r : Round) (log b : List ℕ) → bookLayout log ≡ L.Sound → Third r log b → length (joined log b (r .k)) ≡ joinedLength log b (r .k)
-    → joinRound r log b .log ≡ joined log b (r .k)
-unfolding joinRound joinOut
-third-log r log b s t e =
-    ap (λ (v : Joining). afterJoin r log b v .log) (joining-is r log b s t)
-    ∙ ap (λ (v : Joining). take (joinedLength log b (r .k)) (joinBytesIf v (r .joined) (joined log b (r .k)))) (joining-is r log b s t)
-    ∙ ap (λ (n : ℕ). take n (padded (r .joined) (joined log b (r .k)))) (sym e) ∙ take-padded (r .joined) (joined log b (r .k))
-
--- and the addendum is what was to be joined
-pub third-addendum : (r : Round) (log b : List ℕ) → joinRound r log b .addendum ≡ b
-unfolding joinRound
-third-addendum r log b = by (joining log b (r .k) (r .joined))
-  where
-    by : (v : Joining) → afterJoin r log b v .addendum ≡ b
-    by (Joins.Done n) = refl
-    by Joins.Oversize = refl
-    by Joins.Broken = refl
-    by Joins.TooMany = refl
-    by Joins.NoRoom = refl
 
 -- ---- the whole round
 pub record Passed (r : Round) (log : List ℕ) : Type 0 where

@@ -18,8 +18,8 @@ use Rattle.effects.specs.Event.{eventsOf}
 use Rattle.join.specs.Join.{bookOf, each, movedCell, movedRow, movedEvent, joined}
 use Rattle.intents.specs.Intents.{entryBytes, entryTable, entryText, entryTexts, addendum}
 use Rattle.intents.specs.declared.Chosen.the-variants as C
-use Rattle.rounds.proofs.Entries.{entryEvents}
-use Rattle.rounds.proofs.JoinEvents.{movedRefs}
+use Rattle.demand3.proofs.Entries.{entryEvents}
+use Rattle.demand3.proofs.JoinEvents.{movedRefs}
 
 -- a log whose diff has one row, of `AB` with the action `B`, and an intent of it
 log : List ℕ

@@ -28,10 +28,10 @@ use Rattle.recovery.specs.Recover.{State, firstState, step, steps, stateOf}
 use Rattle.state.specs.State.{sameTruth, sameNumber, sameInt, samePair, sameMarks, samePosition, sameLists}
 use Rattle.intents.specs.declared.Chosen.{Chosen}
 use Rattle.intents.specs.declared.Chosen.the-variants as C
-use Rattle.rounds.specs.Demand3.{recovered, numberAfter, lastNumber}
-use Rattle.rounds.proofs.Entries.{entryCheckpoint, entryEvent}
-use Rattle.rounds.proofs.MovedTables.{and-both}
-use Rattle.rounds.proofs.Settling.{Written, end, more, ordersAfter, same-refl}
+use Rattle.demand3.specs.Demand3.{recovered, numberAfter, lastNumber}
+use Rattle.demand3.proofs.Entries.{entryCheckpoint, entryEvent}
+use Rattle.demand3.proofs.MovedTables.{and-both}
+use Rattle.demand3.proofs.Settling.{Written, end, more, ordersAfter, same-refl}
 
 -- ---- orders and positions go by themselves
 pub steps-orders : (st : State) (es : List Event) → steps st es .orders ≡ ordersAfter es (st .orders)

@@ -24,17 +24,18 @@ use Rattle.recovery.proofs.Appended.{steps-append}
 use Rattle.intents.specs.Intents.{chosen, addendum, entryTable, entryTexts, ordersMost}
 use Rattle.intents.specs.declared.Chosen.{Chosen}
 use Rattle.join.specs.Join.{joined, tooLarge}
 use Rattle.rounds.specs.Rounds.{Round, Outcome, joinRound, roundOf, next}
-use Rattle.rounds.specs.Demand3.{recovered, openIntents, NoRepeat, answered, Small, passes, Whole}
-use Rattle.rounds.proofs.Entries.{Texted, entryEvents}
-use Rattle.rounds.proofs.Settling.{by-bool, Written, ordersAfter, Among, among-take, among-each}
-use Rattle.rounds.proofs.Progress.{one, weight-count, sum-one, sum-take, round-prog, round-weight, reached-among, among-weight, textWeight, texts-length}
-use Rattle.rounds.proofs.Stepping.{steps-orders}
-use Rattle.rounds.proofs.Spelling.{spelt-texted}
-use Rattle.rounds.proofs.SoundBook.{text-length, orders-good}
-use Rattle.rounds.proofs.Calls.{each-map, roundSymbols, roundAddendum, Askable, Second, Third, round-refused, third-log, third-addendum, passed}
-use Rattle.rounds.proofs.EntriesJoined.{Entered, Joins, add-entries, add-no-rows, joins-book, joins-events, joins-text, entries-written, written-take}
-use Rattle.rounds.proofs.Leading.{Led, led-total, led-count, led-refl}
+use Rattle.rounds.proofs.Answers.{by-bool, Third, third-log, third-addendum, round-refused}
+use Rattle.demand3.specs.Demand3.{recovered, openIntents, NoRepeat, answered, Small, passes, Whole}
+use Rattle.demand3.proofs.Entries.{Texted, entryEvents}
+use Rattle.demand3.proofs.Settling.{Written, ordersAfter, Among, among-take, among-each}
+use Rattle.demand3.proofs.Progress.{one, weight-count, sum-one, sum-take, round-prog, round-weight, reached-among, among-weight, textWeight, texts-length}
+use Rattle.demand3.proofs.Stepping.{steps-orders}
+use Rattle.demand3.proofs.Spelling.{spelt-texted}
+use Rattle.demand3.proofs.SoundBook.{text-length, orders-good}
+use Rattle.demand3.proofs.Calls.{each-map, roundSymbols, roundAddendum, Askable, Second, passed}
+use Rattle.demand3.proofs.EntriesJoined.{Entered, Joins, add-entries, add-no-rows, joins-book, joins-events, joins-text, entries-written, written-take}
+use Rattle.demand3.proofs.Leading.{Led, led-total, led-count, led-refl}
 
 -- ---- the addendum, with the broker's choice
 abbrev pub chosenAddendum : List BrokerOrderStatus → Round → List ℕ → List ℕ
@@ -153,7 +154,7 @@ module _ (broker : List BrokerOrderStatus) (small : Small (chosen broker)) (r : 
   next-is : Done → next r x ≡ joined x (chosenAddendum broker r x) (r .k)
   next-is p =
       ap (λ (o : Outcome). o .log) (p .is)
-      ∙ third-log r x (chosenAddendum broker r x) sx (p .third) (joins-book (joins (p .second) (p .third)) .size)
+      ∙ third-log r x (chosenAddendum broker r x) sx (p .third)
 
   pub led-passed : NoRepeat (recovered x .orders) → passes r x ≡ true → Led (chosen broker) x (next r x)
   led-passed d h = let p = parts h in subst (Led (chosen broker) x) (sym (next-is p)) (led-join d (p .second) (p .third))

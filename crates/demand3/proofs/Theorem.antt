@@ -29,20 +29,21 @@ use Rattle.state.specs.State.{sameOrder, sameLists, sameState}
 use Rattle.intents.specs.Intents.{chosen, reached, addendum, entryTexts, ordersMost}
 use Rattle.intents.specs.declared.Chosen.{Chosen}
 use Rattle.join.specs.Join.{joined, joinedLength, tooLarge}
-use Rattle.rounds.specs.Rounds.{Round, Outcome, joinRound, roundOf, next, run}
-use Rattle.rounds.specs.Demand3.{recovered, openIntents, NoRepeat, lastNumber, added, isEntry, Follow, done, passes, Small, OneList, Fewer, Uncut, sameRecovered, Demand3}
-use Rattle.rounds.proofs.Settling.{by-bool, Written, written-length, written-follow}
-use Rattle.rounds.proofs.Progress.{Prog, prog-distinct, weight-none, among-weight, reached-all, tally, tally-one, written-hits, textWeight, texts-length}
-use Rattle.rounds.proofs.Ending.{RefsIn, ends-same, ends-flags}
-use Rattle.rounds.proofs.Stepping.{steps-number, timeless, noted, marks-same, positions-self}
-use Rattle.rounds.proofs.Accepted.{book-accepted}
-use Rattle.rounds.proofs.SoundBook.{text-length, orders-good}
-use Rattle.rounds.proofs.Calls.{each-map, round-refused, roundSymbols, roundAddendum, First, first-full, first-is, Askable, Second, second-full, Joinable, Third, third-full, third-done, third-addendum, stages}
-use Rattle.rounds.proofs.AddendumBook.{length-addendum}
-use Rattle.rounds.proofs.EntriesJoined.{add-sound, add-entries, add-no-rows, add-texts}
-use Rattle.rounds.proofs.Leading.{Led, led-marks, led-positions, led-total, led-count, led-refl, led-trans}
-use Rattle.rounds.proofs.OneRound.{Shows, chosenAddendum, addendum-same, reached-open, entered, next-count, whole-count, led-next, round-fewer}
-use Rattle.rounds.proofs.MovedTables.{and-both}
+use Rattle.rounds.specs.Rounds.{Round, Outcome, joinRound, roundOf, next, run, done}
+use Rattle.rounds.proofs.Answers.{by-bool, Joinable, Third, third-addendum, round-refused}
+use Rattle.demand3.specs.Demand3.{recovered, openIntents, NoRepeat, lastNumber, added, isEntry, Follow, passes, Small, OneList, Fewer, Uncut, sameRecovered, Demand3}
+use Rattle.demand3.proofs.Settling.{Written, written-length, written-follow}
+use Rattle.demand3.proofs.Progress.{Prog, prog-distinct, weight-none, among-weight, reached-all, tally, tally-one, written-hits, textWeight, texts-length}
+use Rattle.demand3.proofs.Ending.{RefsIn, ends-same, ends-flags}
+use Rattle.demand3.proofs.Stepping.{steps-number, timeless, noted, marks-same, positions-self}
+use Rattle.demand3.proofs.Accepted.{book-accepted}
+use Rattle.demand3.proofs.SoundBook.{text-length, orders-good}
+use Rattle.demand3.proofs.Calls.{each-map, roundSymbols, roundAddendum, First, first-full, first-is, Askable, Second, second-full, third-full, third-done, stages}
+use Rattle.demand3.proofs.AddendumBook.{length-addendum}
+use Rattle.demand3.proofs.EntriesJoined.{add-sound, add-entries, add-no-rows, add-texts}
+use Rattle.demand3.proofs.Leading.{Led, led-marks, led-positions, led-total, led-count, led-refl, led-trans}
+use Rattle.demand3.proofs.OneRound.{Shows, chosenAddendum, addendum-same, reached-open, entered, next-count, whole-count, led-next, round-fewer}
+use Rattle.demand3.proofs.MovedTables.{and-both}
 
 -- ---- a sound book is not too large
 size-by : (a : Bool) (l : Layout) → oversizeIf a l ≡ L.Sound → a ≡ false

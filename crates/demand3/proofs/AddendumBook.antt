@@ -27,12 +27,12 @@ use Rattle.intents.specs.Intents.{entryName, reasonText, entryText, entryBytes,
 use Rattle.book.specs.Time.{timeLayout}
 use Rattle.intents.specs.declared.Chosen.{Chosen}
 use Rattle.intents.specs.declared.Chosen.the-variants as C
-use Rattle.rounds.proofs.Entries.{Texted, entryEvent, entryEvents}
-use Rattle.rounds.proofs.BookOf.{small, Reads, length-book, book-reads, book-sound}
+use Rattle.demand3.proofs.Entries.{Texted, entryEvent, entryEvents}
+use Rattle.demand3.proofs.BookOf.{small, Reads, length-book, book-reads, book-sound}
 use Rattle.symbol.proofs.Text.{bytes-take}
-use Rattle.rounds.proofs.MovedTables.{bytes-append, bytes-number, all, every-all}
-use Rattle.rounds.proofs.JoinLayout.{bytes-book}
-use Rattle.rounds.proofs.EntryBytes.{IdFits, entry-read, entry-passes, length-entry, bytes-entry}
+use Rattle.demand3.proofs.MovedTables.{bytes-append, bytes-number, all, every-all}
+use Rattle.demand3.proofs.JoinLayout.{bytes-book}
+use Rattle.demand3.proofs.EntryBytes.{IdFits, entry-read, entry-passes, length-entry, bytes-entry}
 
 -- ---- the table of the entries
 unfoldable eachEntry : {A : Type 0} → Chosen → (ℕ → ℕ → Symbol → A) → ℕ → ℕ → List Symbol → List A

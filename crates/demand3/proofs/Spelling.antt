@@ -43,9 +43,9 @@ use Rattle.effects.specs.Step.{symbolOr, symbolFrom, refOr, wholeOr, limitOf, l
 use Rattle.effects.proofs.CellFits.{ref-fits, limit-fits, SymbolFits, new-fits}
 use Rattle.effects.proofs.Held.{each-append, client-fits, failed-fits, filled-fits}
 use Rattle.intents.specs.Intents.{symbolText}
-use Rattle.rounds.proofs.Entries.{Texted}
-use Rattle.rounds.proofs.Settling.{ordersAfter}
-use Rattle.rounds.proofs.Ending.{RefIn, StrIn, RefsIn}
+use Rattle.demand3.proofs.Entries.{Texted}
+use Rattle.demand3.proofs.Settling.{ordersAfter}
+use Rattle.demand3.proofs.Ending.{RefIn, StrIn, RefsIn}
 
 -- ---- a symbol that a text spells
 pub record Spelt (y : Symbol) : Type 0 where

@@ -34,10 +34,10 @@ use Rattle.recovery.specs.Recover.{steps, roomy, recovery, ordersOut, positions
 use Rattle.join.specs.Join.{bookOf, each, movedCell, movedRow, movedEvent, joined, joining, joinOut}
 use Rattle.intents.specs.Intents.{query, chosen, reached, unreached, entryText, entryBytes, entryTable, entryTexts, addendum, reconciling, addendumOut}
 use Rattle.intents.specs.Intents as Lent
-use Rattle.rounds.specs.Rounds.{Round, joinRound, reconcileRound, roundOf, next, run, roundOrdersOut, roundPositionsOut, roundAddendumOut, roundLogOut, roundWith}
-use Rattle.rounds.specs.Demand3.{recovered, openIntents, NoRepeat, added, done, passes, answered, Small, OneList, Uncut, sameRecovered, Demand3}
+use Rattle.rounds.specs.Rounds.{Round, joinRound, reconcileRound, roundOf, next, run, roundOrdersOut, roundPositionsOut, roundAddendumOut, roundLogOut, roundWith, done}
+use Rattle.demand3.specs.Demand3.{recovered, openIntents, NoRepeat, added, passes, answered, Small, OneList, Uncut, sameRecovered, Demand3}
 use Rattle.rounds.specs.declared.Rounded.the-variants as R
-use Rattle.rounds.proofs.Theorem.{demand3}
+use Rattle.demand3.proofs.Theorem.{demand3}
 
 -- all that the examples go through
 unfoldable opened : Unit {0}

@@ -27,13 +27,13 @@ use Rattle.effects.specs.Event.{bytesOfText, rowOf, rowsOf, eventOf, eventsOf}
 use Rattle.effects.proofs.CellFits.{str-fits, whole-fits}
 use Rattle.recovery.specs.Recover.{firstState}
 use Rattle.book.proofs.Sound.{ArrayIn, cell-array}
-use Rattle.rounds.specs.Demand3.{recovered}
-use Rattle.rounds.proofs.JoinEvents.{row-cell-at, event-cell-at}
-use Rattle.rounds.proofs.JoinLayout.{laid}
-use Rattle.rounds.proofs.MovedTables.{every-from}
-use Rattle.rounds.proofs.Ending.{StrIn}
-use Rattle.rounds.proofs.Stepping.{steps-orders}
-use Rattle.rounds.proofs.Spelling.{Good, GoodStr, TextBytes, GoodRow, GoodRows, GoodEvent, after-good}
+use Rattle.demand3.specs.Demand3.{recovered}
+use Rattle.demand3.proofs.JoinEvents.{row-cell-at, event-cell-at}
+use Rattle.demand3.proofs.JoinLayout.{laid}
+use Rattle.demand3.proofs.MovedTables.{every-from}
+use Rattle.demand3.proofs.Ending.{StrIn}
+use Rattle.demand3.proofs.Stepping.{steps-orders}
+use Rattle.demand3.proofs.Spelling.{Good, GoodStr, TextBytes, GoodRow, GoodRows, GoodEvent, after-good}
 
 -- ---- a cell's text lies within the book's
 str-payload : (rows text k p : ℕ) → payloadOk rows text k p ≡ true → StrIn text (asStr (cellBy k p))

@@ -30,9 +30,9 @@ use Rattle.audit.specs.declared.validate.Verdict.{Verdict}
 use Rattle.audit.specs.declared.validate.Verdict.the-variants as Ver
 use Rattle.intents.specs.declared.Chosen.{Chosen}
 use Rattle.intents.specs.declared.Chosen.the-variants as C
-use Rattle.rounds.specs.Demand3.{numberAfter, lastNumber}
-use Rattle.rounds.proofs.Entries.{entryCheckpoint}
-use Rattle.rounds.proofs.Settling.{Written, end, more}
+use Rattle.demand3.specs.Demand3.{numberAfter, lastNumber}
+use Rattle.demand3.proofs.Entries.{entryCheckpoint}
+use Rattle.demand3.proofs.Settling.{Written, end, more}
 
 -- ---- what validation reads of an event as recovery reads it
 abbrev pub emptyRows : Option (List Row) → Bool

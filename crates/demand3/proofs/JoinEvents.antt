@@ -32,11 +32,12 @@ use Rattle.effects.specs.Event.{Event, Row, bytesOfText, rowOf, rowsOf, eventOf
 use Rattle.wire.proofs.Table.{every-at}
 use Rattle.book.proofs.Sound.{ArrayIn, cell-array, event-cell}
 use Rattle.join.specs.Join.{each, movedCell, movedRow, movedEvent, joined, joinedLength, tooLarge}
-use Rattle.rounds.proofs.BookOf.{small}
-use Rattle.rounds.proofs.MovedTables.{every-from, every-take, records-near, records-take, records-same, records-moved, drop-each, each-at}
-use Rattle.rounds.proofs.MovedCells.{cell-near, movedValue, cell-moved, length-cell, row-cell}
-use Rattle.rounds.proofs.MovedEvents.{length-row, length-event, passed, first-moved, len-moved, mark-moved, number-moved, time-moved, cell-at}
-use Rattle.rounds.proofs.JoinLayout.{laid, eventBytes, rowBytes, addedEvents, addedRows, joined-count, joined-text, joined-rows, joined-events}
+use Rattle.join.proofs.Moves.{cell-size, row-size, event-size}
+use Rattle.demand3.proofs.BookOf.{small}
+use Rattle.demand3.proofs.MovedTables.{every-from, every-take, records-near, records-take, records-same, records-moved, drop-each, each-at}
+use Rattle.demand3.proofs.MovedCells.{cell-near, movedValue, cell-moved, row-cell}
+use Rattle.demand3.proofs.MovedEvents.{passed, first-moved, len-moved, mark-moved, number-moved, time-moved, cell-at}
+use Rattle.demand3.proofs.JoinLayout.{laid, eventBytes, rowBytes, addedEvents, addedRows, joined-count, joined-text, joined-rows, joined-events}
 
 -- ---- text references moved by d bytes; names, symbols and lists are held by value already
 abbrev pub movedStr : ℕ → AsStr → AsStr
@@ -140,7 +141,7 @@ module _ (rows d : ℕ) (t u : List ℕ) (e : length t ≡ d) (r : rows < 2 ^ 32
   unfolding movedRow
   row-cell-read s v b ok i h =
       let r0 : rows + 0 < 2 ^ 32 = omega arith in
-      rw (each-at (movedCell d 0) 16 (length-cell d 0) i 4 s v h)
+      rw (each-at (movedCell d 0) 16 (cell-size d 0) i 4 s v h)
       (cell-moved rows (length u) 0 d r0 l (drop (16 * i) s) _ (bytes-drop (16 * i) s b) (row-cell-at rows (length u) s i ok h))
 
   row-moved : (s v : List ℕ) → Bytes s → rowOk rows (length u) s ≡ true → rowOf (t ++ u) (movedRow d s ++ v) ≡ movedRowRefs d (rowOf u s)
@@ -186,8 +187,8 @@ rows-moved n m d ra rb x t u (A.Is first count) size e r l b ok w =
     let h : first ≤ m = omega arith in
     let k : count ≤ m - first = omega arith in
     ap some
-    (rw (q, drop-append-add ra (each (movedRow d) 64 m rb ++ x) (64 * first), drop-each (movedRow d) 64 (length-row d) first m rb x h)
-    (records-moved (movedRow d) 64 (length-row d) (rowOk m (length u)) (rowOf (t ++ u)) (rowOf u) (movedRowRefs d) (row-moved m d t u e r l)
+    (rw (q, drop-append-add ra (each (movedRow d) 64 m rb ++ x) (64 * first), drop-each (movedRow d) 64 (row-size d) first m rb x h)
+    (records-moved (movedRow d) 64 (row-size d) (rowOk m (length u)) (rowOf (t ++ u)) (rowOf u) (movedRowRefs d) (row-moved m d t u e r l)
     count (m - first) (drop (64 * first) rb) x (bytes-drop (64 * first) rb b) k
     (every-from (rowOk m (length u)) 64 first count m rb w ok)))
 
@@ -323,7 +324,7 @@ module _ (a b : List ℕ) (k : ℕ) (sa : bookLayout a ≡ L.Sound) (sb : bookLa
       let rows : every (rowOk m (length (textOf b))) 64 m (rowsIn b) ≡ true = rw (lb .text) (lb .rows) in
       let events : every (eventOk m (length (textOf b))) 240 k (eventsIn b) ≡ true =
       every-take (eventOk m (length (textOf b))) 240 k (eventCount b) (eventsIn b) most (rw (lb .text) (lb .events)) in
-      records-moved (movedEvent d n) 240 (length-event d n) (eventOk m (length (textOf b)))
+      records-moved (movedEvent d n) 240 (event-size d n) (eventOk m (length (textOf b)))
       (eventOf (rowBytes a ++ (addedRows a b ++ x)) (textOf a ++ textOf b)) (eventOf (rowsIn b) (textOf b)) (movedRefs d)
       (event-moved n m d (rowBytes a) (rowsIn b) x (textOf a) (textOf b) (la .rowSize) (la .text) r l (bytes-drop (24 + 240 * eventCount b) b bytes) rows)
       k k (eventsIn b) rest (bytes-drop 24 b bytes) (le-refl k) events

@@ -17,9 +17,10 @@ use Rattle.book.specs.Layout.{rowOk, eventOk, eventCount, rowCount, textLength,
 use Rattle.book.specs.Event.{eventsIn, rowsIn, textOf}
 use Rattle.book.proofs.Sound.{sound-counts, laid-size}
 use Rattle.join.specs.Join.{bookOf, each, movedRow, movedEvent, joined, joinedLength, tooLarge}
-use Rattle.rounds.proofs.BookOf.{small, Reads, length-book, book-reads, book-sound}
-use Rattle.rounds.proofs.MovedTables.{bytes-append, bytes-number, every-near, every-append, every-take, every-more, every-moved, length-each, bytes-each}
-use Rattle.rounds.proofs.MovedEvents.{row-near, row-more, length-row, bytes-row, row-ok-moved, event-near, event-more, length-event, bytes-event, event-ok-moved}
+use Rattle.join.proofs.Moves.{each-size, row-size, event-size}
+use Rattle.demand3.proofs.BookOf.{small, Reads, book-reads, book-sound}
+use Rattle.demand3.proofs.MovedTables.{bytes-append, bytes-number, every-near, every-append, every-take, every-more, every-moved, bytes-each}
+use Rattle.demand3.proofs.MovedEvents.{row-near, row-more, bytes-row, row-ok-moved, event-near, event-more, bytes-event, event-ok-moved}
 
 -- ---- a sound book's tables
 abbrev pub eventBytes : List ℕ → List ℕ
@@ -69,25 +70,18 @@ abbrev pub addedRows : List ℕ → List ℕ → List ℕ
 addedRows a b = each (movedRow (textLength a)) 64 (rowCount b) (rowsIn b)
 
 module _ (a b : List ℕ) (k : ℕ) (la : Laid a) (lb : Laid b) where
-  event-size : length (eventBytes a ++ addedEvents a b k) ≡ 240 * (eventCount a + k)
-  event-size =
+  events-size : length (eventBytes a ++ addedEvents a b k) ≡ 240 * (eventCount a + k)
+  events-size =
       length-append (eventBytes a) (addedEvents a b k)
-      ∙ omega (arith, la .eventSize, length-each (movedEvent (textLength a) (rowCount a)) 240 (length-event (textLength a) (rowCount a)) k (eventsIn b))
+      ∙ omega (arith, la .eventSize, each-size (movedEvent (textLength a) (rowCount a)) 240 (event-size (textLength a) (rowCount a)) k (eventsIn b))
 
-  row-size : length (rowBytes a ++ addedRows a b) ≡ 64 * (rowCount a + rowCount b)
-  row-size =
+  rows-size : length (rowBytes a ++ addedRows a b) ≡ 64 * (rowCount a + rowCount b)
+  rows-size =
       length-append (rowBytes a) (addedRows a b)
-      ∙ omega (arith, la .rowSize, length-each (movedRow (textLength a)) 64 (length-row (textLength a)) (rowCount b) (rowsIn b))
+      ∙ omega (arith, la .rowSize, each-size (movedRow (textLength a)) 64 (row-size (textLength a)) (rowCount b) (rowsIn b))
 
   text-size : length (textOf a ++ textOf b) ≡ textLength a + textLength b
   text-size = length-append (textOf a) (textOf b) ∙ omega (arith, la .text, lb .text)
-
-  pub length-joined : length (joined a b k) ≡ joinedLength a b k
-  unfolding joined
-  length-joined =
-      length-book (eventCount a + k) (rowCount a + rowCount b) (eventBytes a ++ addedEvents a b k) (rowBytes a ++ addedRows a b) (textOf a ++ textOf b)
-      event-size row-size
-      ∙ omega (arith, text-size)
 
   module _ (fits : tooLarge (joinedLength a b k) (eventCount a + k) (rowCount a + rowCount b) ≡ false) where
     below : 24 + 240 * (eventCount a + k) + 64 * (rowCount a + rowCount b) + length (textOf a ++ textOf b) < 2 ^ 32
@@ -98,7 +92,7 @@ module _ (a b : List ℕ) (k : ℕ) (la : Laid a) (lb : Laid b) where
     unfolding joined
     joined-reads =
         book-reads (eventCount a + k) (rowCount a + rowCount b) (eventBytes a ++ addedEvents a b k) (rowBytes a ++ addedRows a b) (textOf a ++ textOf b)
-        event-size row-size below
+        events-size rows-size below
 
     pub joined-count : eventCount (joined a b k) ≡ eventCount a + k
     joined-count = joined-reads .count
@@ -134,7 +128,7 @@ module _ (a b : List ℕ) (k : ℕ) (la : Laid a) (lb : Laid b) where
           (every-more (eventOk (rowCount a) (textLength a)) 240 ok
           (λ (s : List ℕ). event-more (rowCount a) (textLength a) (rowCount a + rowCount b) (textLength a + textLength b) s (omega arith) (omega arith))
           (eventCount a) (eventBytes a) own)
-          (every-moved (movedEvent (textLength a) (rowCount a)) 240 (length-event (textLength a) (rowCount a)) (eventOk (rowCount b) (textLength b)) ok
+          (every-moved (movedEvent (textLength a) (rowCount a)) 240 (event-size (textLength a) (rowCount a)) (eventOk (rowCount b) (textLength b)) ok
           (event-ok-moved (rowCount b) (textLength b) (rowCount a + rowCount b) (textLength a + textLength b) (textLength a) (rowCount a)
           (omega (arith, below)) (omega (arith, below, text-size)) (omega arith) (omega arith))
           k (eventsIn b) rest (bytes-drop 24 b bytes)
@@ -156,7 +150,7 @@ module _ (a b : List ℕ) (k : ℕ) (la : Laid a) (lb : Laid b) where
           (every-more (rowOk (rowCount a) (textLength a)) 64 ok
           (λ (s : List ℕ). row-more (rowCount a) (textLength a) (rowCount a + rowCount b) (textLength a + textLength b) s (omega arith) (omega arith))
           (rowCount a) (rowBytes a) own)
-          (every-moved (movedRow (textLength a)) 64 (length-row (textLength a)) (rowOk (rowCount b) (textLength b)) ok
+          (every-moved (movedRow (textLength a)) 64 (row-size (textLength a)) (rowOk (rowCount b) (textLength b)) ok
           (row-ok-moved (rowCount b) (textLength b) (rowCount a + rowCount b) (textLength a + textLength b) (textLength a)
           (omega (arith, below)) (omega (arith, below, text-size)) (omega arith) (omega arith))
           (rowCount b) (rowsIn b) rest (bytes-drop (24 + 240 * eventCount b) b bytes) (lb .rows)))
@@ -165,7 +159,7 @@ module _ (a b : List ℕ) (k : ℕ) (la : Laid a) (lb : Laid b) where
       unfolding joined
       joined-sound =
           book-sound (eventCount a + k) (rowCount a + rowCount b) (eventBytes a ++ addedEvents a b k) (rowBytes a ++ addedRows a b) (textOf a ++ textOf b)
-          event-size row-size below (rw text-size fits) events-pass rows-pass
+          events-size rows-size below (rw text-size fits) events-pass rows-pass
 
 pub bytes-book : (n m : ℕ) (events rows text : List ℕ) → Bytes events → Bytes rows → Bytes text → Bytes (bookOf n m events rows text)
 unfolding bookOf
@@ -184,7 +178,7 @@ bytes-joined a b k p q =
     let n = rowCount a in
     bytes-book (eventCount a + k) (rowCount a + rowCount b) (eventBytes a ++ addedEvents a b k) (rowBytes a ++ addedRows a b) (textOf a ++ textOf b)
     (bytes-append (bytes-take (240 * eventCount a) (eventsIn a) (bytes-drop 24 a p))
-    (bytes-each (movedEvent d n) 240 (length-event d n) (bytes-event d n) k (eventsIn b)))
+    (bytes-each (movedEvent d n) 240 (event-size d n) (bytes-event d n) k (eventsIn b)))
     (bytes-append (bytes-take (64 * n) (rowsIn a) (bytes-drop (24 + 240 * eventCount a) a p))
-    (bytes-each (movedRow d) 64 (length-row d) (bytes-row d) (rowCount b) (rowsIn b)))
+    (bytes-each (movedRow d) 64 (row-size d) (bytes-row d) (rowCount b) (rowsIn b)))
     (bytes-append (bytes-drop (24 + 240 * eventCount a + 64 * n) a p) (bytes-drop (24 + 240 * eventCount b + 64 * rowCount b) b q))

@@ -37,9 +37,9 @@ use Rattle.intents.specs.Intents.{symbolText, entryName, reasonText, entryText,
 use Rattle.book.specs.Time.{timeLayout}
 use Rattle.intents.specs.declared.Chosen.{Chosen}
 use Rattle.intents.specs.declared.Chosen.the-variants as C
-use Rattle.rounds.proofs.Entries.{Texted, entryCheckpoint, entryId, entryReason, entryEvent}
-use Rattle.rounds.proofs.MovedTables.{and-both, bytes-append, bytes-number}
-use Rattle.rounds.proofs.MovedEvents.{passes}
+use Rattle.demand3.proofs.Entries.{Texted, entryCheckpoint, entryId, entryReason, entryEvent}
+use Rattle.demand3.proofs.MovedTables.{and-both, bytes-append, bytes-number}
+use Rattle.demand3.proofs.MovedEvents.{passes}
 
 -- ---- a cell that was written
 module _ (k p : ℕ) (t : List ℕ) (hk : k < 2 ^ 64) (hp : p < 2 ^ 64) where

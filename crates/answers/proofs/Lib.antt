@@ -1,3 +1,3 @@
 pub mod Answers
 pub mod Given
-pub mod Lent
+pub mod Words

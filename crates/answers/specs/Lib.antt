@@ -1,5 +1,4 @@
 pub mod Answer
 pub mod DriftAnswer
 pub mod FixedAnswer
-pub mod RecoveryAnswer
 pub mod RoundAnswer

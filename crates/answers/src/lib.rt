@@ -1,22 +1,17 @@
-// Each entry's result as numbers in lent bytes: what the entries of `exports` return and write.
+// Each entry's result as numbers in lent bytes: what the entries of `exports` return and write. What needs a record of marks is in `marks_answers`.
 //
 // A result is the refusal's number, and two numbers in the first sixteen bytes of `answer` or a record of another size; `specs/` says which. An answer
-// that has no room is refused by 3, after every other refusal, and then its bytes and the outputs beside it are zero. Lent marks are a record of 176
-// bytes (crate `marks_record`); one that is none is refused by 2, after 1 of what is lent beside it.
+// that has no room is refused by 3, after every other refusal, and then its bytes and the outputs beside it are zero.
 ghost use mathlib.Core.Path.{_≡_};
 ghost use lib.ListN.{length};
 ghost use Rattle.wire.specs.Layout.{layoutNumber};
-ghost use Rattle.marks_record.specs.MarksRecord.{truthNumber, marksOk};
-ghost use Rattle.answers.specs.Answer.{numbers, roomNumber, unlessShort, answerNumber, answerBytes};
-ghost use Rattle.answers.specs.RecoveryAnswer.{marksFirst};
+ghost use Rattle.answers.specs.Answer.{roomNumber, unlessShort, answerNumber, answerBytes};
 
 pub mod audit_answer;
 pub mod drift_answer;
 pub mod fixed_answer;
-pub mod recovery_answer;
 pub mod reply_answer;
 pub mod round_answer;
-pub mod state_answer;
 
 use wire::layout::Layout;
 
@@ -35,12 +30,6 @@ pub fn layout_number(r: Layout) -> u32
         Layout::Oversize => 1,
         Layout::Broken => 2,
     }
-}
-
-pub fn truth_number(b: bool) -> u64
-    ensures { λ r. ⌜ r ≡ truthNumber b ⌝ }
-{
-    if b { 1 } else { 0 }
 }
 
 // The number where there is no room for an answer.
@@ -95,26 +84,4 @@ pub fn give_beside(n: Numbers, out: &mut [u8], answer: &mut [u8]) -> u32
     let room = answer.len();
     clear_if_short(out, 16, room);
     give(n, answer)
-}
-
-// Whether lent bytes are a record of marks.
-pub fn marks_ok(marks: &[u8]) -> bool
-    ensures { λ r. ⌜ r ≡ marksOk (now (marks .entry)) ⌝ }
-{
-    match marks_record::check(marks) {
-        Layout::Sound => true,
-        Layout::Oversize => false,
-        Layout::Broken => false,
-    }
-}
-
-// The numbers where lent marks are no record: refusal 2, after 1 of what is lent beside them.
-pub fn broken_marks(beside: Layout) -> Numbers
-    ensures { λ n. ⌜ n ≡ numbers (marksFirst Layout.Broken beside (0, 0, 0)) ⌝ }
-{
-    Numbers {
-        refusal: layout_number(wire::layout::both(beside, Layout::Broken)),
-        a: 0,
-        b: 0,
-    }
 }

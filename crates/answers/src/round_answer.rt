@@ -4,13 +4,12 @@ ghost use lib.ListN.{length, replicate};
 ghost use lib.Seq.{sets};
 ghost use Rattle.intents.specs.Intents.{reconcilingNumber};
 ghost use Rattle.answers.specs.Answer.{numbers, numberAlone, roomNumber, unlessShort};
-ghost use Rattle.answers.specs.RoundAnswer.{joiningNumbers, reconciledBytes, reconcilingBytes, unmarked, lentReconciling, lentAddendumOut, roundedNumbers};
+ghost use Rattle.answers.specs.RoundAnswer.{joiningNumbers, reconciledBytes, reconcilingBytes, roundedNumbers};
 use crate::Numbers;
 use intents::Reconciled;
 use intents::Reconciling;
 use join::Joining;
 use rounds::Rounded;
-use wire::layout::Layout;
 
 pub fn joining_numbers(j: Joining) -> Numbers
     ensures { λ n. ⌜ n ≡ numbers (numberAlone (joiningNumbers j)) ⌝ }
@@ -77,36 +76,6 @@ pub fn give_reconciling(r: Reconciling, answer: &mut [u8]) -> u32
     wire::clear(answer);
     let number = put_reconciling(answer, r);
     crate::within(answer, 24, number)
-}
-
-// What is said where lent marks are no record.
-fn without_marks(sheet: Layout) -> Reconciling
-    ensures { λ r. ⌜ r ≡ unmarked sheet ⌝ }
-{
-    match sheet {
-        Layout::Sound => Reconciling::Broken,
-        Layout::Oversize => Reconciling::Oversize,
-        Layout::Broken => Reconciling::Broken,
-    }
-}
-
-// Reconciling with lent marks into an addendum.
-pub fn lent_reconciling(
-    marks: &[u8],
-    orders: &[u8],
-    sheet: &[u8],
-    queries: &[u8],
-    time: i64,
-    addendum: &mut [u8],
-) -> Reconciling
-    ensures { λ r. ⌜ (r ≡ lentReconciling (now (marks .entry)) (now (orders .entry)) (now (sheet .entry)) (now (queries .entry)) time (length (now (addendum .entry)))) × (now (addendum .exit) ≡ lentAddendumOut (now (marks .entry)) (now (orders .entry)) (now (sheet .entry)) (now (queries .entry)) time (length (now (addendum .entry)))) ⌝ }
-{
-    if !crate::marks_ok(marks) {
-        wire::clear(addendum);
-        return without_marks(sheet::check(sheet));
-    }
-    let m = marks_record::marks_of(marks);
-    intents::reconcile_incomplete_intents(m, orders, sheet, queries, time, addendum)
 }
 
 pub fn rounded_numbers(r: Rounded) -> Numbers

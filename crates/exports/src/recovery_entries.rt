@@ -4,8 +4,8 @@ ghost use mathlib.Core.Path.{_≡_};
 ghost use lib.ListN.{length};
 ghost use Rattle.recovery.specs.Recover.{recovery, recoveryNumber, ordersOut, positionsOut};
 ghost use Rattle.answers.specs.Answer.{roomNumber, unlessShort, answerNumber, answerBytes};
-ghost use Rattle.answers.specs.RecoveryAnswer.{recoveryBytes, lentActionNumbers, lentStepNumbers, recordAfter};
-use answers::recovery_answer;
+ghost use Rattle.marks_answers.specs.RecoveryAnswer.{recoveryBytes, lentActionNumbers, lentStepNumbers, recordAfter};
+use marks_answers::recovery_answer;
 
 // Entry. Recovery of a book: the records in `orders` and `positions`; in `answer` the marks in 176 bytes, then as u64 how many orders, how many
 // positions, and the action (0 Restart, 1 Resume, 2 ManualReview).

@@ -6,7 +6,8 @@ ghost use Rattle.join.specs.Join.{joining, joinOut};
 ghost use Rattle.intents.specs.Intents.{reconcilingNumber};
 ghost use Rattle.rounds.specs.Rounds.{roundWith, roundOf, roundOrdersOut, roundPositionsOut, roundAddendumOut, roundLogOut};
 ghost use Rattle.answers.specs.Answer.{roomNumber, unlessShort, answerNumber, answerBytes};
-ghost use Rattle.answers.specs.RoundAnswer.{joiningNumbers, reconcilingBytes, lentReconciling, lentAddendumOut, roundedNumbers};
+ghost use Rattle.answers.specs.RoundAnswer.{joiningNumbers, reconcilingBytes, roundedNumbers};
+ghost use Rattle.marks_answers.specs.RoundAnswer.{lentReconciling, lentAddendumOut};
 use answers::round_answer;
 
 // Entry. The first `k` events of book `b` joined to book `a`, as a book in `out`: its length, then 0.
@@ -36,7 +37,14 @@ pub extern "C" fn desk_reconcile_incomplete_intents(
     ensures { λ k. ⌜ now (addendum .exit) ≡ unlessShort 24 (length (now (answer .entry))) (length (now (addendum .entry))) (lentAddendumOut (now (marks .entry)) (now (orders .entry)) (now (sheet .entry)) (now (queries .entry)) time (length (now (addendum .entry)))) ⌝ }
     ensures { λ k. ⌜ now (answer .exit) ≡ unlessShort 24 (length (now (answer .entry))) (length (now (answer .entry))) (reconcilingBytes (lentReconciling (now (marks .entry)) (now (orders .entry)) (now (sheet .entry)) (now (queries .entry)) time (length (now (addendum .entry)))) (length (now (answer .entry)))) ⌝ }
 {
-    let r = round_answer::lent_reconciling(marks, orders, sheet, queries, time, addendum);
+    let r = marks_answers::round_answer::lent_reconciling(
+        marks,
+        orders,
+        sheet,
+        queries,
+        time,
+        addendum,
+    );
     let room = answer.len();
     answers::clear_if_short(addendum, 24, room);
     round_answer::give_reconciling(r, answer)

@@ -4,7 +4,7 @@ use Rattle.answers.proofs.round_answer.put_reconciled.Statement.{statem
 use Rattle.answers.proofs.round_answer.put_reconciled.Tie as tie
 use mathlib.Core.Path.{_∙_}
 use denote.Ref.{now}
-use Rattle.answers.proofs.Lent.{reconciled-written}
+use Rattle.answers.proofs.Words.{reconciled-written}
 
 cast-put-u64 : tie.Need-cast-put-u64
 cast-put-u64 c = search needs

@@ -1,0 +1,2 @@
+pub mod RecoveryAnswer
+pub mod RoundAnswer

@@ -1,0 +1,121 @@
+// The answers of `state` and of `compare`.
+ghost use mathlib.Core.Path.{_≡_};
+ghost use lib.ListN.{length};
+ghost use Rattle.wire.specs.Layout.{bothOf};
+ghost use Rattle.book.specs.Layout.{bookLayout};
+ghost use Rattle.answers.specs.Answer.{numbers};
+ghost use Rattle.marks_answers.specs.RecoveryAnswer.{marksFirst, equalityNumbers, comparisonNumbers, lentEqualityNumbers, lentComparisonNumbers, lentReport};
+use answers::Numbers;
+use compare::Comparison;
+use state::Equality;
+use wire::layout::Layout;
+
+fn equality_numbers(e: Equality) -> Numbers
+    ensures { λ n. ⌜ n ≡ numbers (equalityNumbers e) ⌝ }
+{
+    match e {
+        Equality::Is(b) => Numbers {
+            refusal: 0,
+            a: crate::truth_number(b),
+            b: 0,
+        },
+        Equality::Oversize => Numbers {
+            refusal: 1,
+            a: 0,
+            b: 0,
+        },
+        Equality::Broken => Numbers {
+            refusal: 2,
+            a: 0,
+            b: 0,
+        },
+    }
+}
+
+// The numbers where the marks of two states are no records.
+fn broken_marks_of(book_a: &[u8], book_b: &[u8]) -> Numbers
+    ensures { λ n. ⌜ n ≡ numbers (marksFirst Layout.Broken (bothOf (bookLayout (now («book_a» .entry))) (bookLayout (now («book_b» .entry)))) (0, 0, 0)) ⌝ }
+{
+    let a = book::layout::check(book_a);
+    let b = book::layout::check(book_b);
+    crate::broken_marks(wire::layout::both(a, b))
+}
+
+// Whether two states with lent marks are equal.
+pub fn lent_equality(
+    book_a: &[u8],
+    marks_a: &[u8],
+    orders_a: &[u8],
+    positions_a: &[u8],
+    book_b: &[u8],
+    marks_b: &[u8],
+    orders_b: &[u8],
+    positions_b: &[u8],
+) -> Numbers
+    ensures { λ n. ⌜ n ≡ numbers (lentEqualityNumbers (now («book_a» .entry)) (now («marks_a» .entry)) (now («orders_a» .entry)) (now («positions_a» .entry)) (now («book_b» .entry)) (now («marks_b» .entry)) (now («orders_b» .entry)) (now («positions_b» .entry))) ⌝ }
+{
+    if !crate::marks_ok(marks_a) {
+        return broken_marks_of(book_a, book_b);
+    }
+    if !crate::marks_ok(marks_b) {
+        return broken_marks_of(book_a, book_b);
+    }
+    let a = marks_record::marks_of(marks_a);
+    let b = marks_record::marks_of(marks_b);
+    let e = state::states_equal(
+        book_a,
+        a,
+        orders_a,
+        positions_a,
+        book_b,
+        b,
+        orders_b,
+        positions_b,
+    );
+    equality_numbers(e)
+}
+
+fn comparison_numbers(c: Comparison) -> Numbers
+    ensures { λ n. ⌜ n ≡ numbers (comparisonNumbers c) ⌝ }
+{
+    match c {
+        Comparison::Done(r) => Numbers {
+            refusal: 0,
+            a: r.count as u64,
+            b: crate::truth_number(r.critical),
+        },
+        Comparison::Oversize => Numbers {
+            refusal: 1,
+            a: 0,
+            b: 0,
+        },
+        Comparison::Broken => Numbers {
+            refusal: 2,
+            a: 0,
+            b: 0,
+        },
+        Comparison::NoRoom => Numbers {
+            refusal: 3,
+            a: 0,
+            b: 0,
+        },
+    }
+}
+
+// The comparison with lent marks into a report.
+pub fn lent_comparison(
+    marks: &[u8],
+    orders: &[u8],
+    positions: &[u8],
+    sheet: &[u8],
+    report: &mut [u8],
+) -> Numbers
+    ensures { λ n. ⌜ (n ≡ numbers (lentComparisonNumbers (now (marks .entry)) (now (orders .entry)) (now (positions .entry)) (now (sheet .entry)) (length (now (report .entry))))) × (now (report .exit) ≡ lentReport (now (marks .entry)) (now (orders .entry)) (now (positions .entry)) (now (sheet .entry)) (length (now (report .entry)))) ⌝ }
+{
+    if !crate::marks_ok(marks) {
+        wire::clear(report);
+        return crate::broken_marks(sheet::check(sheet));
+    }
+    let m = marks_record::marks_of(marks);
+    comparison_numbers(compare::compare_broker_state(m, orders, positions, sheet, report))
+}

@@ -2,14 +2,12 @@
 use crate::body;
 use crate::lent;
 use crate::logs;
-use crate::numbers;
 use crate::saved;
 use crate::tally;
-use intents::Reconciling;
-use join::Joining;
+use answers::Numbers;
 
 // Reconciling into so many bytes.
-fn reconcile(b: &[u8], s: &[u8], out: &mut [u8], bytes: u64) -> Reconciling {
+fn reconcile(b: &[u8], s: &[u8], out: &mut [u8], bytes: u64, answer: &mut [u8]) -> u32 {
     let time = wire::signed(body::number_in(b, 5, 1));
     lent::reconcile_in(
         s,
@@ -18,29 +16,31 @@ fn reconcile(b: &[u8], s: &[u8], out: &mut [u8], bytes: u64) -> Reconciling {
         time,
         out,
         bytes,
+        answer,
     )
 }
 
 // The refusal of reconciling with lent room.
-fn lent_reconciling(b: &[u8], s: &[u8]) -> u64 {
+fn lent_reconciling(b: &[u8], s: &[u8]) -> u32 {
     let mut out = io::buffer();
-    numbers::reconciling_refusal(reconcile(b, s, &mut out, body::number_in(b, 5, 6)))
+    let mut answer = [0u8; 24];
+    reconcile(b, s, &mut out, body::number_in(b, 5, 6), &mut answer)
 }
 
 // Section 16.
-fn reconciling_numbers(tally: &mut [u64], b: &[u8], lent: u64, r: Reconciling) {
+fn reconciling_numbers(tally: &mut [u64], b: &[u8], refusal: u32, lent: u32, answer: &[u8]) {
     let agrees = body::is_four(
         body::section(b, 16),
-        numbers::reconciling_refusal(r),
-        lent,
-        numbers::entries(r),
-        numbers::unreached(r),
+        refusal as u64,
+        lent as u64,
+        wire::u64_of(answer),
+        wire::u64_at(answer, 8),
     );
     tally::compared(tally, tally::RECONCILINGS, 16, agrees);
 }
 
 // The join of the book and the first k events of an addendum into so many bytes.
-fn join(b: &[u8], addendum: &[u8], out: &mut [u8], bytes: u64) -> Joining {
+fn join(b: &[u8], addendum: &[u8], out: &mut [u8], bytes: u64) -> Numbers {
     lent::join_in(
         body::section(b, 1),
         addendum,
@@ -51,36 +51,21 @@ fn join(b: &[u8], addendum: &[u8], out: &mut [u8], bytes: u64) -> Joining {
 }
 
 // The refusal of the join with lent room.
-fn lent_joining(b: &[u8], addendum: &[u8]) -> u64 {
+fn lent_joining(b: &[u8], addendum: &[u8]) -> u32 {
     let mut out = io::large_buffer();
-    numbers::joining_refusal(join(b, addendum, &mut out, body::number_in(b, 5, 7)))
+    let n = join(b, addendum, &mut out, body::number_in(b, 5, 7));
+    n.refusal
 }
 
 // Section 18.
-fn joining_numbers(tally: &mut [u64], b: &[u8], lent: u64, j: Joining) {
-    let agrees = body::is_three(
-        body::section(b, 18),
-        numbers::joining_refusal(j),
-        lent,
-        numbers::joined_bytes(j) as u64,
-    );
+fn joining_numbers(tally: &mut [u64], b: &[u8], lent: u32, n: Numbers) {
+    let agrees = body::is_three(body::section(b, 18), n.refusal as u64, lent as u64, n.a);
     tally::compared(tally, tally::JOINS, 18, agrees);
-}
-
-// Section 19.
-fn equality(tally: &mut [u64], b: &[u8], s: &[u8], joined: &[u8], again: &[u8]) {
-    let e = saved::equal(body::section(b, 1), s, joined, again);
-    tally::compared(
-        tally,
-        tally::EQUALITIES,
-        19,
-        numbers::is_equality(body::section(b, 19), e),
-    );
 }
 
 // Sections 20 and 21.
 fn state_bytes(tally: &mut [u64], b: &[u8], again: &[u8]) {
-    tally::bytes(tally, tally::MARKS, b, 20, saved::marks_bytes(again));
+    tally::bytes(tally, tally::MARKS, b, 20, saved::marks(again));
     tally::bytes(tally, tally::ORDERS, b, 21, saved::orders(again));
 }
 
@@ -88,17 +73,18 @@ fn state_bytes(tally: &mut [u64], b: &[u8], again: &[u8]) {
 fn recovered(tally: &mut [u64], b: &[u8], s: &[u8], joined: &[u8]) {
     let mut again = io::buffer();
     saved::recover(joined, logs::now(b), &mut again);
-    equality(tally, b, s, joined, &again);
+    let n = saved::equal(body::section(b, 1), s, joined, &again);
+    tally::two(tally, tally::EQUALITIES, b, 19, n);
     state_bytes(tally, b, &again);
 }
 
 // Sections 18 to 21; the last is 18 where the join is refused.
 fn joined(tally: &mut [u64], b: &[u8], s: &[u8], addendum: &[u8]) {
     let mut out = io::large_buffer();
-    let j = join(b, addendum, &mut out, 65536);
-    joining_numbers(tally, b, lent_joining(b, addendum), j);
-    if numbers::joining_refusal(j) == 0 {
-        recovered(tally, b, s, wire::part(&out, 0, numbers::joined_bytes(j)));
+    let n = join(b, addendum, &mut out, 65536);
+    joining_numbers(tally, b, lent_joining(b, addendum), n);
+    if n.refusal == 0 {
+        recovered(tally, b, s, wire::part(&out, 0, n.a as usize));
     }
 }
 
@@ -111,9 +97,15 @@ fn added(tally: &mut [u64], b: &[u8], s: &[u8], addendum: &[u8]) {
 // Sections 16 to 21; the last is 16 where reconciling is refused.
 pub fn replay(tally: &mut [u64], b: &[u8], s: &[u8]) {
     let mut out = io::buffer();
-    let r = reconcile(b, s, &mut out, 65536);
-    reconciling_numbers(tally, b, lent_reconciling(b, s), r);
-    if numbers::reconciling_refusal(r) == 0 {
-        added(tally, b, s, wire::part(&out, 0, numbers::addendum_bytes(r)));
+    let mut answer = [0u8; 24];
+    let refusal = reconcile(b, s, &mut out, 65536, &mut answer);
+    reconciling_numbers(tally, b, refusal, lent_reconciling(b, s), &answer);
+    if refusal == 0 {
+        added(
+            tally,
+            b,
+            s,
+            wire::part(&out, 0, wire::u64_at(&answer, 16) as usize),
+        );
     }
 }

@@ -1,32 +1,28 @@
 // The entries that write, over the first bytes of a buffer: as many as are lent, or as the buffer has. The buffers of this program are larger
 // than any answer of the list, and stand for any larger room.
 use crate::saved;
-use compare::Comparison;
-use drift::report::Drift;
-use intents::Reconciling;
-use join::Joining;
-use recovery::recover::Recovery;
+use answers::Numbers;
+use answers::drift_answer;
+use answers::round_answer;
+use marks_answers::recovery_answer;
 
 fn room(bytes: u64) -> isize {
     if bytes < 65536 { bytes as isize } else { 65536 }
 }
 
-// Recovery into so many bytes of orders and of positions.
-pub fn recover_in(
-    book: &[u8],
-    time: i64,
-    orders: &mut [u8],
-    order_bytes: u64,
-    positions: &mut [u8],
-    position_bytes: u64,
-) -> Recovery {
-    let n = io::count(room(order_bytes), orders);
-    let m = io::count(room(position_bytes), positions);
-    recovery::recover::reconstruct_state(book, time, &mut orders[..n], &mut positions[..m])
+// The refusal of a recovery into so many bytes of orders and of positions.
+pub fn recover_in(book: &[u8], time: i64, order_bytes: u64, position_bytes: u64) -> u32 {
+    let mut orders = io::buffer();
+    let mut positions = io::buffer();
+    let n = io::count(room(order_bytes), &orders);
+    let m = io::count(room(position_bytes), &positions);
+    let r = recovery::recover::reconstruct_state(book, time, &mut orders[..n], &mut positions[..m]);
+    let mut answer = [0u8; 200];
+    recovery_answer::give_recovery(r, &mut answer)
 }
 
 // The comparison of a state into so many bytes of a report.
-pub fn compare_in(s: &[u8], sheet: &[u8], report: &mut [u8], bytes: u64) -> Comparison {
+pub fn compare_in(s: &[u8], sheet: &[u8], report: &mut [u8], bytes: u64) -> Numbers {
     let n = io::count(room(bytes), report);
     saved::compare(s, sheet, &mut report[..n])
 }
@@ -39,15 +35,16 @@ pub fn reconcile_in(
     time: i64,
     addendum: &mut [u8],
     bytes: u64,
-) -> Reconciling {
+    answer: &mut [u8],
+) -> u32 {
     let n = io::count(room(bytes), addendum);
-    saved::reconcile(s, sheet, queries, time, &mut addendum[..n])
+    saved::reconcile(s, sheet, queries, time, &mut addendum[..n], answer)
 }
 
 // The join into so many bytes.
-pub fn join_in(book: &[u8], addendum: &[u8], k: u64, out: &mut [u8], bytes: u64) -> Joining {
+pub fn join_in(book: &[u8], addendum: &[u8], k: u64, out: &mut [u8], bytes: u64) -> Numbers {
     let n = io::count(room(bytes), out);
-    join::join(book, addendum, k, &mut out[..n])
+    round_answer::joining_numbers(join::join(book, addendum, k, &mut out[..n]))
 }
 
 // The drift into so many bytes of entries.
@@ -58,9 +55,15 @@ pub fn drift_in(
     equity: i64,
     entries: &mut [u8],
     bytes: u64,
-) -> Drift {
+) -> Numbers {
     let n = io::count(room(bytes), entries);
-    drift::report::reconcile(holdings, targets, prices, equity, &mut entries[..n])
+    drift_answer::drift_numbers(drift::report::reconcile(
+        holdings,
+        targets,
+        prices,
+        equity,
+        &mut entries[..n],
+    ))
 }
 
 // Reads so many bytes of a file, and returns how many came.

@@ -2,31 +2,32 @@
 use crate::addenda;
 use crate::body;
 use crate::lent;
-use crate::numbers;
 use crate::saved;
 use crate::tally;
-use compare::Comparison;
-use reply::Replied;
+use answers::audit_answer;
+use answers::reply_answer;
 
 // Section 6.
 fn verdict(tally: &mut [u64], b: &[u8]) {
     let v = audit::validate::validate_checkpoints_from_parsed(body::section(b, 1));
-    tally::compared(
+    tally::three(
         tally,
         tally::VERDICTS,
+        b,
         6,
-        numbers::is_verdict(body::section(b, 6), v),
+        audit_answer::verdict_numbers(v),
     );
 }
 
 // Section 7.
 fn highest(tally: &mut [u64], b: &[u8]) {
     let h = audit::sequence::max_checkpoint_sequence(body::section(b, 1));
-    tally::compared(
+    tally::two(
         tally,
         tally::HIGHEST,
+        b,
         7,
-        numbers::is_highest(body::section(b, 7), h),
+        audit_answer::highest_numbers(h),
     );
 }
 
@@ -36,32 +37,20 @@ fn window(tally: &mut [u64], b: &[u8]) {
         body::section(b, 1),
         body::section(b, 4),
     );
-    tally::compared(
-        tally,
-        tally::WINDOWS,
-        8,
-        numbers::is_window(body::section(b, 8), w),
-    );
-}
-
-// How many bytes a reply has, none where it is refused.
-fn text_bytes(r: Replied) -> usize {
-    match r {
-        Replied::Done(len) => len,
-        Replied::NoRoom => 0,
-    }
+    tally::three(tally, tally::WINDOWS, b, 8, audit_answer::window_numbers(w));
 }
 
 // Section 9.
 fn desk(tally: &mut [u64], b: &[u8]) {
     let mut out = io::buffer();
     let r = reply::reply(body::section(b, 1), body::section(b, 2), &mut out);
+    let n = reply_answer::reply_numbers(r);
     tally::bytes(
         tally,
         tally::REPLIES,
         b,
         9,
-        wire::part(&out, 0, text_bytes(r)),
+        wire::part(&out, 0, n.a as usize),
     );
 }
 
@@ -71,54 +60,51 @@ pub fn now(b: &[u8]) -> i64 {
 }
 
 // The refusal of a recovery with lent room.
-fn lent_recovery(b: &[u8]) -> u64 {
-    let mut o = io::buffer();
-    let mut p = io::buffer();
+fn lent_recovery(b: &[u8]) -> u32 {
     let n = body::number_in(b, 5, 3);
     let m = body::number_in(b, 5, 4);
-    numbers::recovery_refusal(lent::recover_in(body::section(b, 1), now(b), &mut o, n, &mut p, m))
+    lent::recover_in(body::section(b, 1), now(b), n, m)
 }
 
 // Section 10.
-fn recovery_numbers(tally: &mut [u64], b: &[u8], refusal: u64, action: u64) {
-    let agrees = body::is_three(body::section(b, 10), refusal, lent_recovery(b), action);
+fn recovery_numbers(tally: &mut [u64], b: &[u8], refusal: u32, action: u64) {
+    let lent = lent_recovery(b) as u64;
+    let agrees = body::is_three(body::section(b, 10), refusal as u64, lent, action);
     tally::compared(tally, tally::RECOVERIES, 10, agrees);
 }
 
 // The refusal of a comparison with lent room.
-fn lent_comparison(b: &[u8], s: &[u8]) -> u64 {
+fn lent_comparison(b: &[u8], s: &[u8]) -> u32 {
     let mut out = io::buffer();
-    let n = body::number_in(b, 5, 5);
-    numbers::comparison_refusal(lent::compare_in(s, body::section(b, 2), &mut out, n))
+    let bytes = body::number_in(b, 5, 5);
+    let n = lent::compare_in(s, body::section(b, 2), &mut out, bytes);
+    n.refusal
 }
 
 // Section 14.
-fn comparison_numbers(tally: &mut [u64], b: &[u8], s: &[u8], c: Comparison) {
-    let agrees = body::is_two(
-        body::section(b, 14),
-        numbers::comparison_refusal(c),
-        lent_comparison(b, s),
-    );
+fn comparison_numbers(tally: &mut [u64], b: &[u8], s: &[u8], refusal: u32) {
+    let lent = lent_comparison(b, s) as u64;
+    let agrees = body::is_two(body::section(b, 14), refusal as u64, lent);
     tally::compared(tally, tally::COMPARISONS, 14, agrees);
 }
 
 // Sections 14 and 15.
 fn compared(tally: &mut [u64], b: &[u8], s: &[u8]) {
     let mut out = io::buffer();
-    let c = saved::compare(s, body::section(b, 2), &mut out);
-    comparison_numbers(tally, b, s, c);
+    let n = saved::compare(s, body::section(b, 2), &mut out);
+    comparison_numbers(tally, b, s, n.refusal);
     tally::bytes(
         tally,
         tally::REPORTS,
         b,
         15,
-        wire::part(&out, 0, numbers::report_bytes(c)),
+        wire::part(&out, 0, 48 * (saved::few(n.a) as usize)),
     );
 }
 
 // Sections 11 to 13.
 fn state_bytes(tally: &mut [u64], b: &[u8], s: &[u8]) {
-    tally::bytes(tally, tally::MARKS, b, 11, saved::marks_bytes(s));
+    tally::bytes(tally, tally::MARKS, b, 11, saved::marks(s));
     tally::bytes(tally, tally::ORDERS, b, 12, saved::orders(s));
     tally::bytes(tally, tally::POSITIONS, b, 13, saved::positions(s));
 }

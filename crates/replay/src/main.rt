@@ -8,16 +8,11 @@ mod conversions;
 mod drifts;
 mod lent;
 mod logs;
-mod numbers;
 mod saved;
 mod states;
 mod tally;
 
 use libc::STDOUT_FILENO;
-
-fn print_line(text: &[u8]) {
-    io::write_all(STDOUT_FILENO, text);
-}
 
 // A case of a kind. One of no kind that is known differs in its section 0.
 fn by_kind(tally: &mut [u64], kind: u32, b: &[u8]) {
@@ -71,24 +66,19 @@ fn at_end(fd: i32) -> bool {
     io::read_full(fd, &mut more) == 0
 }
 
-// Replays a whole list, and says where it is none.
-fn read_list(fd: i32, tally: &mut [u64]) {
+// Replays a whole list of format 1; false where it is none, breaks off, or has bytes behind its last case.
+fn read_list(fd: i32, tally: &mut [u64]) -> bool {
     let mut head = [0u8; 8];
     if io::read_full(fd, &mut head) != 8 {
-        print_line(b"no list\n");
-        return;
+        return false;
     }
     if wire::u32_of(&head) != 1 {
-        print_line(b"no list of format 1\n");
-        return;
+        return false;
     }
     if !read_cases(fd, tally, wire::u32_at(&head, 4)) {
-        print_line(b"the list breaks off\n");
-        return;
+        return false;
     }
-    if !at_end(fd) {
-        print_line(b"bytes behind the last case\n");
-    }
+    at_end(fd)
 }
 
 fn main() {
@@ -98,7 +88,9 @@ fn main() {
         return;
     }
     let mut tally = [0u64; 23];
-    read_list(fd, &mut tally);
+    if !read_list(fd, &mut tally) {
+        io::write_all(STDOUT_FILENO, b"no whole list\n");
+    }
     libc::close(fd);
     tally::print(&tally);
 }

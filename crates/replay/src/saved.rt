@@ -1,24 +1,16 @@
-// A recovered state in one buffer of 4,096 bytes: at 0 the marks, at 176 two u64, how many bytes of orders and of positions there are, at 192 the orders,
-// at 2,040 a u64, the action, at 2,048 the positions.
-use crate::numbers;
-use compare::Comparison;
-use intents::Reconciling;
-use marks::Marks;
-use marks::action::Action;
-use recovery::recover::Recovered;
-use recovery::recover::Recovery;
-use state::Equality;
+// A recovered state in one buffer of 4,096 bytes: at 0 the marks, at 176 two u64, how many bytes of orders and of positions there are, at 192 a u64, the
+// action, at 200 the orders, at 2,048 the positions.
+use answers::Numbers;
+use marks_answers::recovery_answer;
+use marks_answers::round_answer;
+use marks_answers::state_answer;
 
-pub fn marks_bytes(s: &[u8]) -> &[u8] {
+pub fn marks(s: &[u8]) -> &[u8] {
     wire::part(s, 0, 176)
 }
 
-fn marks(s: &[u8]) -> Marks {
-    marks_record::marks_of(marks_bytes(s))
-}
-
 pub fn orders(s: &[u8]) -> &[u8] {
-    wire::part(s, 192, wire::u64_at(s, 176) as usize)
+    wire::part(s, 200, wire::u64_at(s, 176) as usize)
 }
 
 pub fn positions(s: &[u8]) -> &[u8] {
@@ -26,68 +18,58 @@ pub fn positions(s: &[u8]) -> &[u8] {
 }
 
 pub fn action(s: &[u8]) -> u64 {
-    wire::u64_at(s, 2040)
+    wire::u64_at(s, 192)
 }
 
 pub fn put_records(s: &mut [u8], orders: &[u8], positions: &[u8]) {
-    wire::put(s, 176, 8, orders.len() as u64);
-    wire::put(s, 184, 8, positions.len() as u64);
-    wire::copy(s, 192, orders);
+    wire::put_u64(s, 176, orders.len() as u64);
+    wire::put_u64(s, 184, positions.len() as u64);
+    wire::copy(s, 200, orders);
     wire::copy(s, 2048, positions);
 }
 
-fn put_recovered(s: &mut [u8], r: Recovered, orders: &[u8], positions: &[u8]) {
-    let action = r.action;
-    marks_record::put_marks(s, r.marks);
-    wire::put(s, 2040, 8, numbers::action(action));
-    let n = 64 * (r.orders as usize);
-    let k = 32 * (r.positions as usize);
-    put_records(s, wire::part(orders, 0, n), wire::part(positions, 0, k));
+// How many records an answer counts; none where they are more than any answer of the list has.
+pub fn few(count: u64) -> u16 {
+    if count < 65536 { count as u16 } else { 0 }
 }
 
-// The refusal's number; the state is put where there is none.
-fn put_recovery(s: &mut [u8], r: Recovery, orders: &[u8], positions: &[u8]) -> u64 {
-    match r {
-        Recovery::Done(x) => {
-            put_recovered(s, x, orders, positions);
-            0
-        }
-        Recovery::Oversize => 1,
-        Recovery::Broken => 2,
-        Recovery::NoRoom => 3,
-    }
-}
-
-// Recovery with ample room.
-pub fn recover(book: &[u8], time: i64, s: &mut [u8]) -> u64 {
+// Recovery with ample room: the refusal's number. The state is all zero where there is one.
+pub fn recover(book: &[u8], time: i64, s: &mut [u8]) -> u32 {
     let mut orders = io::buffer();
     let mut positions = io::buffer();
     let r = recovery::recover::reconstruct_state(book, time, &mut orders, &mut positions);
-    put_recovery(s, r, &orders, &positions)
+    let refusal = recovery_answer::give_recovery(r, s);
+    let n = 64 * (few(wire::u64_at(s, 176)) as usize);
+    let m = 32 * (few(wire::u64_at(s, 184)) as usize);
+    put_records(s, wire::part(&orders, 0, n), wire::part(&positions, 0, m));
+    refusal
 }
 
 // ---- the entries that take a state
-pub fn next_action(s: &[u8]) -> Action {
-    marks(s).recovery_action(orders(s))
+pub fn next_action(s: &[u8]) -> Numbers {
+    recovery_answer::lent_action(marks(s), orders(s))
 }
 
-pub fn compare(s: &[u8], sheet: &[u8], report: &mut [u8]) -> Comparison {
-    compare::compare_broker_state(marks(s), orders(s), positions(s), sheet, report)
+pub fn compare(s: &[u8], sheet: &[u8], report: &mut [u8]) -> Numbers {
+    state_answer::lent_comparison(marks(s), orders(s), positions(s), sheet, report)
 }
 
+// The refusal's number; the answer has how many entries, how many are unreached, and how many bytes.
 pub fn reconcile(
     s: &[u8],
     sheet: &[u8],
     queries: &[u8],
     time: i64,
     addendum: &mut [u8],
-) -> Reconciling {
-    intents::reconcile_incomplete_intents(marks(s), orders(s), sheet, queries, time, addendum)
+    answer: &mut [u8],
+) -> u32 {
+    let r = round_answer::lent_reconciling(marks(s), orders(s), sheet, queries, time, addendum);
+    answers::round_answer::give_reconciling(r, answer)
 }
 
 // Two states, each with its book.
-pub fn equal(book: &[u8], s: &[u8], other: &[u8], t: &[u8]) -> Equality {
-    state::states_equal(
+pub fn equal(book: &[u8], s: &[u8], other: &[u8], t: &[u8]) -> Numbers {
+    state_answer::lent_equality(
         book,
         marks(s),
         orders(s),

@@ -1,5 +1,6 @@
 // How many answers of each sort were compared, by the sort's number, and a line for each that is not the recorded one.
 use crate::body;
+use answers::Numbers;
 use libc::STDOUT_FILENO;
 
 pub const CASES: usize = 0;
@@ -26,25 +27,25 @@ pub const REPORTS: usize = 10;
 
 pub const ACTIONS: usize = 11;
 
-pub const EQUALITIES: usize = 12;
+pub const RECONCILINGS: usize = 12;
 
-pub const DRIFTS: usize = 13;
+pub const ADDENDA: usize = 13;
 
-pub const ENTRIES: usize = 14;
+pub const JOINS: usize = 14;
 
-pub const HELD: usize = 15;
+pub const EQUALITIES: usize = 15;
 
-pub const FIXED: usize = 16;
+pub const DRIFTS: usize = 16;
 
-pub const CENTS: usize = 17;
+pub const ENTRIES: usize = 17;
 
-pub const CASTS: usize = 18;
+pub const HELD: usize = 18;
 
-pub const RECONCILINGS: usize = 19;
+pub const FIXED: usize = 19;
 
-pub const ADDENDA: usize = 20;
+pub const CENTS: usize = 20;
 
-pub const JOINS: usize = 21;
+pub const CASTS: usize = 21;
 
 pub const DISAGREEMENTS: usize = 22;
 
@@ -92,49 +93,58 @@ pub fn compared(tally: &mut [u64], sort: usize, section: u32, agrees: bool) {
 
 // Counts an answer in bytes.
 pub fn bytes(tally: &mut [u64], sort: usize, b: &[u8], section: u32, answer: &[u8]) {
-    compared(
-        tally,
-        sort,
-        section,
-        wire::same(answer, body::section(b, section)),
-    );
+    let agrees = wire::same(answer, body::section(b, section));
+    compared(tally, sort, section, agrees);
+}
+
+// Counts an answer of a refusal and one number, and of a refusal and two.
+pub fn two(tally: &mut [u64], sort: usize, b: &[u8], section: u32, n: Numbers) {
+    let agrees = body::is_two(body::section(b, section), n.refusal as u64, n.a);
+    compared(tally, sort, section, agrees);
+}
+
+pub fn three(tally: &mut [u64], sort: usize, b: &[u8], section: u32, n: Numbers) {
+    let agrees = body::is_three(body::section(b, section), n.refusal as u64, n.a, n.b);
+    compared(tally, sort, section, agrees);
 }
 
 // A line of a sort's count.
-fn print_count(label: &[u8], tally: &[u64], sort: usize) {
+fn print_count(label: &[u8], n: u64) {
     io::write_all(STDOUT_FILENO, label);
-    io::print_decimal(STDOUT_FILENO, count(tally, sort));
+    io::print_decimal(STDOUT_FILENO, n);
     io::write_all(STDOUT_FILENO, b"\n");
-}
-
-// The lines of the sorts that logs and lent states have.
-fn print_states(tally: &[u64]) {
-    print_count(b"verdicts ", tally, VERDICTS);
-    print_count(b"highest numbers ", tally, HIGHEST);
-    print_count(b"windows ", tally, WINDOWS);
-    print_count(b"replies ", tally, REPLIES);
-    print_count(b"recoveries ", tally, RECOVERIES);
-    print_count(b"marks ", tally, MARKS);
-    print_count(b"orders ", tally, ORDERS);
-    print_count(b"positions ", tally, POSITIONS);
-    print_count(b"comparisons ", tally, COMPARISONS);
-    print_count(b"reports ", tally, REPORTS);
-    print_count(b"actions ", tally, ACTIONS);
-    print_count(b"reconcilings ", tally, RECONCILINGS);
-    print_count(b"addenda ", tally, ADDENDA);
-    print_count(b"joins ", tally, JOINS);
-    print_count(b"equalities ", tally, EQUALITIES);
 }
 
 // All counts, a line each.
 pub fn print(tally: &[u64]) {
-    print_count(b"cases ", tally, CASES);
-    print_states(tally);
-    print_count(b"drifts ", tally, DRIFTS);
-    print_count(b"drift entries ", tally, ENTRIES);
-    print_count(b"held values ", tally, HELD);
-    print_count(b"conversions ", tally, FIXED);
-    print_count(b"cents ", tally, CENTS);
-    print_count(b"casts ", tally, CASTS);
-    print_count(b"disagreements ", tally, DISAGREEMENTS);
+    // The sorts in the order of their numbers, each in 16 bytes.
+    let labels = b"cases           \
+              verdicts        \
+              highest numbers \
+              windows         \
+              replies         \
+              recoveries      \
+              marks           \
+              orders          \
+              positions       \
+              comparisons     \
+              reports         \
+              actions         \
+              reconcilings    \
+              addenda         \
+              joins           \
+              equalities      \
+              drifts          \
+              drift entries   \
+              held values     \
+              conversions     \
+              cents           \
+              casts           \
+              disagreements   ";
+    let mut left: u8 = 23;
+    while 0 < left {
+        let sort = (23 - left) as usize;
+        print_count(wire::part(labels, 16 * sort, 16), count(tally, sort));
+        left -= 1;
+    }
 }

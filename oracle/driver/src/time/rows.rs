@@ -75,6 +75,10 @@ impl Asked {
         (self.entry.call)(black_box(&self.inputs), &self.numbers, &mut self.lent)
     }
 
+    fn rooms(&self) -> impl Iterator<Item = usize> + '_ {
+        self.lent.iter().map(|l| l.bytes().len())
+    }
+
     /// A word of the answer, from 0.
     fn word(&self, at: usize) -> u64 {
         let answer = self.lent[self.lent.len() - 1].bytes();
@@ -84,7 +88,7 @@ impl Asked {
     /// Every byte as the judge has it, and nothing written beside.
     fn judged(&mut self) -> Result<(), String> {
         let number = self.call();
-        let rooms: Vec<usize> = self.lent[..self.entry.outputs].iter().map(|l| l.bytes().len()).collect();
+        let rooms: Vec<usize> = self.rooms().take(self.entry.outputs).collect();
         let due = (self.entry.due)(&self.inputs, &self.numbers).within(&rooms);
         // Of a refusal that gives no bytes every output is zero.
         let none = Vec::new();
@@ -97,13 +101,31 @@ impl Asked {
     }
 }
 
+/// Bytes that were lent to a question are lent to the next one, where its rooms are the same: as by a caller that asks again and again.
+fn lend_on(asked: &mut [Asked], i: usize) {
+    if let [a, b, ..] = &mut asked[i..] {
+        if a.rooms().eq(b.rooms()) {
+            std::mem::swap(&mut a.lent, &mut b.lent);
+        }
+    }
+}
+
 /// A row of questions to one entry. `read` gives the number of an answer that the original's side gives too.
 fn asking(size: usize, asked: Vec<Asked>, read: fn(u32, &Asked) -> u64, sides: [Option<fn(&Given) -> u64>; 3], given: Given) -> Row {
     let asked = Rc::new(RefCell::new(asked));
     let given = Rc::new(given);
     let library = {
         let asked = asked.clone();
-        move || asked.borrow_mut().iter_mut().map(|a| (a.call(), a)).map(|(number, a)| read(number, a)).sum()
+        move || {
+            let mut asked = asked.borrow_mut();
+            let mut sum = 0;
+            for i in 0..asked.len() {
+                let number = asked[i].call();
+                sum += read(number, &asked[i]);
+                lend_on(&mut asked, i);
+            }
+            sum
+        }
     };
     let [parsed, whole, parse] = sides.map(|side| {
         let given = given.clone();

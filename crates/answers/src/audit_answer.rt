@@ -1,11 +1,11 @@
 // The numbers of what `audit` answers.
 ghost use mathlib.Core.Path.{_≡_};
 ghost use Rattle.audit.specs.Verdict.{verdictNumbers};
-ghost use Rattle.audit.specs.Sequence.{highestNumbers, windowNumbers};
+ghost use Rattle.sequence.specs.Sequence.{highestNumbers, windowNumbers};
 ghost use Rattle.answers.specs.Answer.{numbers, numberAlone};
 use crate::Numbers;
-use audit::sequence::Highest;
-use audit::sequence::Window;
+use sequence::Highest;
+use sequence::Window;
 use audit::validate::Verdict;
 
 pub fn verdict_numbers(v: Verdict) -> Numbers

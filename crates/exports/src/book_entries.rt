@@ -6,7 +6,7 @@ ghost use Rattle.wire.specs.Layout.{layoutNumber};
 ghost use Rattle.book.specs.Layout.{bookLayout};
 ghost use Rattle.sheet.specs.Sheet.{sheetLayout};
 ghost use Rattle.audit.specs.Verdict.{bookVerdict, verdictNumbers};
-ghost use Rattle.audit.specs.Sequence.{bookHighest, highestNumbers, bookWindow, windowNumbers};
+ghost use Rattle.sequence.specs.Sequence.{bookHighest, highestNumbers, bookWindow, windowNumbers};
 ghost use Rattle.answers.specs.Answer.{answerNumber, answerBytes};
 use answers::audit_answer;
 
@@ -44,7 +44,7 @@ pub extern "C" fn desk_max_checkpoint_sequence(book: &[u8], answer: &mut [u8]) -
     ensures { λ k. ⌜ k ≡ answerNumber (highestNumbers (bookHighest (now (book .entry))) .0) (length (now (answer .entry))) ⌝ }
     ensures { λ k. ⌜ now (answer .exit) ≡ answerBytes (highestNumbers (bookHighest (now (book .entry))) .1) 0 (length (now (answer .entry))) ⌝ }
 {
-    let highest = audit_answer::highest_numbers(audit::sequence::max_checkpoint_sequence(book));
+    let highest = audit_answer::highest_numbers(sequence::max_checkpoint_sequence(book));
     answers::give(highest, answer)
 }
 
@@ -58,7 +58,7 @@ pub extern "C" fn desk_check_window_already_complete(
     ensures { λ k. ⌜ k ≡ answerNumber (windowNumbers (bookWindow (now (window .entry)) (now (book .entry))) .0) (length (now (answer .entry))) ⌝ }
     ensures { λ k. ⌜ now (answer .exit) ≡ answerBytes (windowNumbers (bookWindow (now (window .entry)) (now (book .entry))) .1) (windowNumbers (bookWindow (now (window .entry)) (now (book .entry))) .2) (length (now (answer .entry))) ⌝ }
 {
-    let complete = audit_answer::window_numbers(audit::sequence::check_window_already_complete(
+    let complete = audit_answer::window_numbers(sequence::check_window_already_complete(
         book,
         window,
     ));

@@ -21,7 +21,7 @@ fn verdict(tally: &mut [u64], b: &[u8]) {
 
 // Section 7.
 fn highest(tally: &mut [u64], b: &[u8]) {
-    let h = audit::sequence::max_checkpoint_sequence(body::section(b, 1));
+    let h = sequence::max_checkpoint_sequence(body::section(b, 1));
     tally::two(
         tally,
         tally::HIGHEST,
@@ -33,7 +33,7 @@ fn highest(tally: &mut [u64], b: &[u8]) {
 
 // Section 8.
 fn window(tally: &mut [u64], b: &[u8]) {
-    let w = audit::sequence::check_window_already_complete(
+    let w = sequence::check_window_already_complete(
         body::section(b, 1),
         body::section(b, 4),
     );

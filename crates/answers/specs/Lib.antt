@@ -1,4 +1,2 @@
 pub mod Answer
-pub mod DriftAnswer
 pub mod FixedAnswer
-pub mod RoundAnswer

@@ -1,4 +1,5 @@
-// Each entry's result as numbers in lent bytes: what the entries of `exports` return and write. What needs a record of marks is in `marks_answers`.
+// What the entries of `exports` return and write: the writers that they share, and a conversion's answer. The others are in `log_answers`, `drift_answers`,
+// `marks_answers`, `recovery_answers` and `round_answers`.
 //
 // A result is the refusal's number, and two numbers in the first sixteen bytes of `answer` or a record of another size; `specs/` says which. An answer
 // that has no room is refused by 3, after every other refusal, and then its bytes and the outputs beside it are zero.
@@ -7,11 +8,7 @@ ghost use lib.ListN.{length};
 ghost use Rattle.wire.specs.Layout.{layoutNumber};
 ghost use Rattle.answers.specs.Answer.{roomNumber, unlessShort, answerNumber, answerBytes};
 
-pub mod audit_answer;
-pub mod drift_answer;
 pub mod fixed_answer;
-pub mod reply_answer;
-pub mod round_answer;
 
 use wire::layout::Layout;
 

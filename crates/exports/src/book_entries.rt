@@ -8,7 +8,6 @@ ghost use Rattle.sheet.specs.Sheet.{sheetLayout};
 ghost use Rattle.audit.specs.Verdict.{bookVerdict, verdictNumbers};
 ghost use Rattle.sequence.specs.Sequence.{bookHighest, highestNumbers, bookWindow, windowNumbers};
 ghost use Rattle.answers.specs.Answer.{answerNumber, answerBytes};
-use answers::audit_answer;
 
 // Refusals 1 and 2 of a book.
 #[no_mangle]
@@ -32,7 +31,7 @@ pub extern "C" fn desk_validate_checkpoints(book: &[u8], answer: &mut [u8]) -> u
     ensures { λ k. ⌜ k ≡ answerNumber (verdictNumbers (bookVerdict (now (book .entry))) .0) (length (now (answer .entry))) ⌝ }
     ensures { λ k. ⌜ now (answer .exit) ≡ answerBytes (verdictNumbers (bookVerdict (now (book .entry))) .1) (verdictNumbers (bookVerdict (now (book .entry))) .2) (length (now (answer .entry))) ⌝ }
 {
-    let verdict = audit_answer::verdict_numbers(audit::validate::validate_checkpoints_from_parsed(
+    let verdict = log_answers::verdict_numbers(audit::validate::validate_checkpoints_from_parsed(
         book,
     ));
     answers::give(verdict, answer)
@@ -44,7 +43,7 @@ pub extern "C" fn desk_max_checkpoint_sequence(book: &[u8], answer: &mut [u8]) -
     ensures { λ k. ⌜ k ≡ answerNumber (highestNumbers (bookHighest (now (book .entry))) .0) (length (now (answer .entry))) ⌝ }
     ensures { λ k. ⌜ now (answer .exit) ≡ answerBytes (highestNumbers (bookHighest (now (book .entry))) .1) 0 (length (now (answer .entry))) ⌝ }
 {
-    let highest = audit_answer::highest_numbers(sequence::max_checkpoint_sequence(book));
+    let highest = log_answers::highest_numbers(sequence::max_checkpoint_sequence(book));
     answers::give(highest, answer)
 }
 
@@ -58,7 +57,7 @@ pub extern "C" fn desk_check_window_already_complete(
     ensures { λ k. ⌜ k ≡ answerNumber (windowNumbers (bookWindow (now (window .entry)) (now (book .entry))) .0) (length (now (answer .entry))) ⌝ }
     ensures { λ k. ⌜ now (answer .exit) ≡ answerBytes (windowNumbers (bookWindow (now (window .entry)) (now (book .entry))) .1) (windowNumbers (bookWindow (now (window .entry)) (now (book .entry))) .2) (length (now (answer .entry))) ⌝ }
 {
-    let complete = audit_answer::window_numbers(sequence::check_window_already_complete(
+    let complete = log_answers::window_numbers(sequence::check_window_already_complete(
         book,
         window,
     ));

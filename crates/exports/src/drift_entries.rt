@@ -5,8 +5,7 @@ ghost use lib.ListN.{length};
 ghost use Rattle.drift.specs.Report.{driftOf, driftBytes};
 ghost use Rattle.drift.specs.Value.{heldOf};
 ghost use Rattle.answers.specs.Answer.{unlessShort, answerNumber, answerBytes};
-ghost use Rattle.answers.specs.DriftAnswer.{driftNumbers, heldNumbers};
-use answers::drift_answer;
+ghost use Rattle.drift_answers.specs.DriftAnswer.{driftNumbers, heldNumbers};
 
 // Entry. The drift of what is held against targets and prices, at an equity in cents, as entries of 64 bytes in `entries`: how many, then the bits of
 // the tracking error.
@@ -23,7 +22,7 @@ pub extern "C" fn desk_reconcile(
     ensures { λ k. ⌜ now (entries .exit) ≡ unlessShort 16 (length (now (answer .entry))) (length (now (entries .entry))) (driftBytes (now (positions .entry)) (now (targets .entry)) (now (prices .entry)) equity (length (now (entries .entry)))) ⌝ }
     ensures { λ k. ⌜ now (answer .exit) ≡ answerBytes (driftNumbers (driftOf (now (positions .entry)) (now (targets .entry)) (now (prices .entry)) equity (length (now (entries .entry)))) .1) (driftNumbers (driftOf (now (positions .entry)) (now (targets .entry)) (now (prices .entry)) equity (length (now (entries .entry)))) .2) (length (now (answer .entry))) ⌝ }
 {
-    let n = drift_answer::drift_numbers(drift::report::reconcile(
+    let n = drift_answers::drift_numbers(drift::report::reconcile(
         positions,
         targets,
         prices,
@@ -39,6 +38,6 @@ pub extern "C" fn desk_held_value(positions: &[u8], prices: &[u8], answer: &mut 
     ensures { λ k. ⌜ k ≡ answerNumber (heldNumbers (heldOf (now (positions .entry)) (now (prices .entry))) .0) (length (now (answer .entry))) ⌝ }
     ensures { λ k. ⌜ now (answer .exit) ≡ answerBytes (heldNumbers (heldOf (now (positions .entry)) (now (prices .entry))) .1) (heldNumbers (heldOf (now (positions .entry)) (now (prices .entry))) .2) (length (now (answer .entry))) ⌝ }
 {
-    let n = drift_answer::held_numbers(drift::held::held_value(positions, prices));
+    let n = drift_answers::held_numbers(drift::held::held_value(positions, prices));
     answers::give(n, answer)
 }

@@ -4,8 +4,7 @@ ghost use mathlib.Core.Path.{_≡_};
 ghost use lib.ListN.{length};
 ghost use Rattle.recovery.specs.Recover.{recovery, recoveryNumber, ordersOut, positionsOut};
 ghost use Rattle.answers.specs.Answer.{roomNumber, unlessShort, answerNumber, answerBytes};
-ghost use Rattle.marks_answers.specs.RecoveryAnswer.{recoveryBytes, lentActionNumbers, lentStepNumbers, recordAfter};
-use marks_answers::recovery_answer;
+ghost use Rattle.recovery_answers.specs.RecoveryAnswer.{recoveryBytes, lentActionNumbers, lentStepNumbers, recordAfter};
 
 // Entry. Recovery of a book: the records in `orders` and `positions`; in `answer` the marks in 176 bytes, then as u64 how many orders, how many
 // positions, and the action (0 Restart, 1 Resume, 2 ManualReview).
@@ -25,7 +24,7 @@ pub extern "C" fn desk_reconstruct_state(
     let r = recovery::recover::reconstruct_state(book, time, orders, positions);
     let room = answer.len();
     answers::clear_both_if_short(orders, positions, 200, room);
-    recovery_answer::give_recovery(r, answer)
+    recovery_answers::give_recovery(r, answer)
 }
 
 // Entry. The action by lent marks and orders (0 Restart, 1 Resume, 2 ManualReview), then 0.
@@ -34,7 +33,7 @@ pub extern "C" fn desk_recovery_action(marks: &[u8], orders: &[u8], answer: &mut
     ensures { λ k. ⌜ k ≡ answerNumber (lentActionNumbers (now (marks .entry)) (now (orders .entry)) .0) (length (now (answer .entry))) ⌝ }
     ensures { λ k. ⌜ now (answer .exit) ≡ answerBytes (lentActionNumbers (now (marks .entry)) (now (orders .entry)) .1) (lentActionNumbers (now (marks .entry)) (now (orders .entry)) .2) (length (now (answer .entry))) ⌝ }
 {
-    let n = recovery_answer::lent_action(marks, orders);
+    let n = recovery_answers::lent_action(marks, orders);
     answers::give(n, answer)
 }
 
@@ -47,6 +46,6 @@ pub extern "C" fn desk_step(book: &[u8], next: u32, marks: &mut [u8], answer: &m
     ensures { λ k. ⌜ now (answer .exit) ≡ answerBytes (lentStepNumbers (now (book .entry)) next (now (marks .entry)) .1) (lentStepNumbers (now (book .entry)) next (now (marks .entry)) .2) (length (now (answer .entry))) ⌝ }
 {
     let room = answer.len();
-    let n = recovery_answer::lent_step(book, next, room, marks);
+    let n = recovery_answers::lent_step(book, next, room, marks);
     answers::give(n, answer)
 }

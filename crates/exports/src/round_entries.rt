@@ -6,9 +6,9 @@ ghost use Rattle.join.specs.Join.{joining, joinOut};
 ghost use Rattle.intents.specs.Intents.{reconcilingNumber};
 ghost use Rattle.rounds.specs.Rounds.{roundWith, roundOf, roundOrdersOut, roundPositionsOut, roundAddendumOut, roundLogOut};
 ghost use Rattle.answers.specs.Answer.{roomNumber, unlessShort, answerNumber, answerBytes};
-ghost use Rattle.answers.specs.RoundAnswer.{joiningNumbers, reconcilingBytes, roundedNumbers};
-ghost use Rattle.marks_answers.specs.RoundAnswer.{lentReconciling, lentAddendumOut};
-use answers::round_answer;
+ghost use Rattle.marks_answers.specs.IntentsAnswer.{reconcilingBytes, lentReconciling, lentAddendumOut};
+ghost use Rattle.round_answers.specs.RoundAnswer.{joiningNumbers, roundedNumbers};
+use marks_answers::intents_answer;
 
 // Entry. The first `k` events of book `b` joined to book `a`, as a book in `out`: its length, then 0.
 #[no_mangle]
@@ -17,7 +17,7 @@ pub extern "C" fn desk_join(a: &[u8], b: &[u8], k: u64, out: &mut [u8], answer: 
     ensures { λ n. ⌜ now (out .exit) ≡ unlessShort 16 (length (now (answer .entry))) (length (now (out .entry))) (joinOut (now (a .entry)) (now (b .entry)) k (length (now (out .entry)))) ⌝ }
     ensures { λ n. ⌜ now (answer .exit) ≡ answerBytes (joiningNumbers (joining (now (a .entry)) (now (b .entry)) k (length (now (out .entry)))) .1) 0 (length (now (answer .entry))) ⌝ }
 {
-    let n = round_answer::joining_numbers(join::join(a, b, k, out));
+    let n = round_answers::joining_numbers(join::join(a, b, k, out));
     answers::give_beside(n, out, answer)
 }
 
@@ -37,17 +37,10 @@ pub extern "C" fn desk_reconcile_incomplete_intents(
     ensures { λ k. ⌜ now (addendum .exit) ≡ unlessShort 24 (length (now (answer .entry))) (length (now (addendum .entry))) (lentAddendumOut (now (marks .entry)) (now (orders .entry)) (now (sheet .entry)) (now (queries .entry)) time (length (now (addendum .entry)))) ⌝ }
     ensures { λ k. ⌜ now (answer .exit) ≡ unlessShort 24 (length (now (answer .entry))) (length (now (answer .entry))) (reconcilingBytes (lentReconciling (now (marks .entry)) (now (orders .entry)) (now (sheet .entry)) (now (queries .entry)) time (length (now (addendum .entry)))) (length (now (answer .entry)))) ⌝ }
 {
-    let r = marks_answers::round_answer::lent_reconciling(
-        marks,
-        orders,
-        sheet,
-        queries,
-        time,
-        addendum,
-    );
+    let r = intents_answer::lent_reconciling(marks, orders, sheet, queries, time, addendum);
     let room = answer.len();
     answers::clear_if_short(addendum, 24, room);
-    round_answer::give_reconciling(r, answer)
+    intents_answer::give_reconciling(r, answer)
 }
 
 // Entry. A round on a log: recovery at the time `at`, reconciling with entries of the time `time`, and the join of the first `k` entries. In `orders`
@@ -85,7 +78,7 @@ pub extern "C" fn desk_round(
         addendum,
         joined,
     );
-    let n = round_answer::rounded_numbers(r);
+    let n = round_answers::rounded_numbers(r);
     let room = answer.len();
     answers::clear_both_if_short(orders, positions, 16, room);
     answers::clear_if_short(addendum, 16, room);

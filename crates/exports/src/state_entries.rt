@@ -3,7 +3,7 @@
 ghost use mathlib.Core.Path.{_≡_};
 ghost use lib.ListN.{length};
 ghost use Rattle.answers.specs.Answer.{unlessShort, answerNumber, answerBytes};
-ghost use Rattle.marks_answers.specs.RecoveryAnswer.{lentEqualityNumbers, lentComparisonNumbers, lentReport};
+ghost use Rattle.marks_answers.specs.StateAnswer.{lentEqualityNumbers, lentComparisonNumbers, lentReport};
 use marks_answers::state_answer;
 
 // Entry. Whether two states are equal, each lent as a book, marks, orders and positions: 1 if so, else 0; then 0.

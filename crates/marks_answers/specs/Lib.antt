@@ -1,2 +1,3 @@
-pub mod RecoveryAnswer
-pub mod RoundAnswer
+pub mod LentMarks
+pub mod StateAnswer
+pub mod IntentsAnswer

@@ -1,13 +1,12 @@
-// The answers of the entries that take or give marks, over the writers of `answers`.
+// The answers of `state`, `compare` and `intents` to lent marks, over the writers of `answers`.
 //
 // Lent marks are a record of 176 bytes (crate `marks_record`); one that is none is refused by 2, after 1 of what is lent beside it.
 ghost use mathlib.Core.Path.{_≡_};
 ghost use Rattle.marks_record.specs.MarksRecord.{truthNumber, marksOk};
 ghost use Rattle.answers.specs.Answer.{numbers};
-ghost use Rattle.marks_answers.specs.RecoveryAnswer.{marksFirst};
+ghost use Rattle.marks_answers.specs.LentMarks.{marksFirst};
 
-pub mod recovery_answer;
-pub mod round_answer;
+pub mod intents_answer;
 pub mod state_answer;
 
 use answers::Numbers;

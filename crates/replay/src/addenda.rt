@@ -1,10 +1,11 @@
 // Kind 1, sections 16 to 21: the recovered state reconciled, the addendum joined to the book, and what is recovered from the joined book.
-use crate::body;
-use crate::lent;
 use crate::logs;
-use crate::saved;
-use crate::tally;
+use crate::recover;
 use answers::Numbers;
+use recorded::body;
+use recorded::lent;
+use recorded::saved;
+use recorded::tally;
 
 // Reconciling into so many bytes.
 fn reconcile(b: &[u8], s: &[u8], out: &mut [u8], bytes: u64, answer: &mut [u8]) -> u32 {
@@ -39,9 +40,15 @@ fn reconciling_numbers(tally: &mut [u64], b: &[u8], refusal: u32, lent: u32, ans
     tally::compared(tally, tally::RECONCILINGS, 16, agrees);
 }
 
+// The join into so many bytes.
+fn join_in(book: &[u8], addendum: &[u8], k: u64, out: &mut [u8], bytes: u64) -> Numbers {
+    let n = io::count(lent::room(bytes), out);
+    round_answers::joining_numbers(join::join(book, addendum, k, &mut out[..n]))
+}
+
 // The join of the book and the first k events of an addendum into so many bytes.
 fn join(b: &[u8], addendum: &[u8], out: &mut [u8], bytes: u64) -> Numbers {
-    lent::join_in(
+    join_in(
         body::section(b, 1),
         addendum,
         body::number_in(b, 5, 2),
@@ -72,7 +79,7 @@ fn state_bytes(tally: &mut [u64], b: &[u8], again: &[u8]) {
 // Sections 19 to 21. A joined book that is refused leaves zeros, and so differs in section 20.
 fn recovered(tally: &mut [u64], b: &[u8], s: &[u8], joined: &[u8]) {
     let mut again = io::buffer();
-    saved::recover(joined, logs::now(b), &mut again);
+    recover::recover(joined, logs::now(b), &mut again);
     let n = saved::equal(body::section(b, 1), s, joined, &again);
     tally::two(tally, tally::EQUALITIES, b, 19, n);
     state_bytes(tally, b, &again);

@@ -1,11 +1,10 @@
 // Kind 1, a log. Inputs: book 1, sheet 2, queries 3, window 4, numbers 5. The sections of answers up to 15; those behind it are in `addenda`.
 use crate::addenda;
-use crate::body;
-use crate::lent;
-use crate::saved;
-use crate::tally;
-use answers::audit_answer;
-use answers::reply_answer;
+use crate::recover;
+use recorded::body;
+use recorded::lent;
+use recorded::saved;
+use recorded::tally;
 
 // Section 6.
 fn verdict(tally: &mut [u64], b: &[u8]) {
@@ -15,36 +14,27 @@ fn verdict(tally: &mut [u64], b: &[u8]) {
         tally::VERDICTS,
         b,
         6,
-        audit_answer::verdict_numbers(v),
+        log_answers::verdict_numbers(v),
     );
 }
 
 // Section 7.
 fn highest(tally: &mut [u64], b: &[u8]) {
     let h = sequence::max_checkpoint_sequence(body::section(b, 1));
-    tally::two(
-        tally,
-        tally::HIGHEST,
-        b,
-        7,
-        audit_answer::highest_numbers(h),
-    );
+    tally::two(tally, tally::HIGHEST, b, 7, log_answers::highest_numbers(h));
 }
 
 // Section 8.
 fn window(tally: &mut [u64], b: &[u8]) {
-    let w = sequence::check_window_already_complete(
-        body::section(b, 1),
-        body::section(b, 4),
-    );
-    tally::three(tally, tally::WINDOWS, b, 8, audit_answer::window_numbers(w));
+    let w = sequence::check_window_already_complete(body::section(b, 1), body::section(b, 4));
+    tally::three(tally, tally::WINDOWS, b, 8, log_answers::window_numbers(w));
 }
 
 // Section 9.
 fn desk(tally: &mut [u64], b: &[u8]) {
     let mut out = io::buffer();
     let r = reply::reply(body::section(b, 1), body::section(b, 2), &mut out);
-    let n = reply_answer::reply_numbers(r);
+    let n = log_answers::reply_numbers(r);
     tally::bytes(
         tally,
         tally::REPLIES,
@@ -63,7 +53,7 @@ pub fn now(b: &[u8]) -> i64 {
 fn lent_recovery(b: &[u8]) -> u32 {
     let n = body::number_in(b, 5, 3);
     let m = body::number_in(b, 5, 4);
-    lent::recover_in(body::section(b, 1), now(b), n, m)
+    recover::recover_in(body::section(b, 1), now(b), n, m)
 }
 
 // Section 10.
@@ -119,7 +109,7 @@ fn state_sections(tally: &mut [u64], b: &[u8], s: &[u8]) {
 // Sections 10 to 21; the last is 10 where recovery is refused.
 fn recovered(tally: &mut [u64], b: &[u8]) {
     let mut s = io::buffer();
-    let refusal = saved::recover(body::section(b, 1), now(b), &mut s);
+    let refusal = recover::recover(body::section(b, 1), now(b), &mut s);
     recovery_numbers(tally, b, refusal, saved::action(&s));
     if refusal == 0 {
         state_sections(tally, b, &s);

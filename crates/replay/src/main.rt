@@ -2,17 +2,16 @@
 // the answers byte for byte with the recorded ones. FORMAT.md has the list's layout.
 //
 // It prints a line for each answer that differs, by the case's number, from 0, and the section's, then how many answers of each sort were compared.
+mod actions;
 mod addenda;
-mod body;
-mod conversions;
-mod drifts;
-mod lent;
 mod logs;
-mod saved;
-mod states;
-mod tally;
+mod recover;
 
 use libc::STDOUT_FILENO;
+use recorded::conversions;
+use recorded::drifts;
+use recorded::lent;
+use recorded::tally;
 
 // A case of a kind. One of no kind that is known differs in its section 0.
 fn by_kind(tally: &mut [u64], kind: u32, b: &[u8]) {
@@ -21,7 +20,7 @@ fn by_kind(tally: &mut [u64], kind: u32, b: &[u8]) {
         1 => logs::replay(tally, b),
         2 => drifts::replay(tally, b),
         3 => conversions::replay(tally, b),
-        4 => states::replay(tally, b),
+        4 => actions::replay(tally, b),
         _ => tally::differs(tally, 0),
     }
 }

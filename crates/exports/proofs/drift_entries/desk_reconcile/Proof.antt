@@ -8,7 +8,7 @@ use mir.Syntax.{w64}
 use mir.ValLaws.{toZ-ofZ}
 use Rattle.drift.specs.declared.report.Drift.{Drift}
 use Rattle.answers.specs.Answer.{numbers}
-use Rattle.answers.specs.DriftAnswer.{driftNumbers}
+use Rattle.drift_answers.specs.DriftAnswer.{driftNumbers}
 use Rattle.answers.proofs.Given.{of-same, beside}
 
 reconcile-requires : tie.Need-reconcile-requires

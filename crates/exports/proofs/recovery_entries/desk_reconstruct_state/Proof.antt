@@ -9,7 +9,7 @@ use mir.ValLaws.{toZ-ofZ}
 use Rattle.recovery.specs.Recover.{recoveryNumber}
 use Rattle.recovery.specs.declared.recover.Recovery.{Recovery}
 use Rattle.answers.specs.Answer.{roomNumber, unlessShort}
-use Rattle.marks_answers.specs.RecoveryAnswer.{recoveryBytes}
+use Rattle.recovery_answers.specs.RecoveryAnswer.{recoveryBytes}
 use Rattle.answers.proofs.Given.{beside}
 
 reconstruct-state-requires : tie.Need-reconstruct-state-requires

@@ -6,7 +6,7 @@ use mathlib.Core.Path.{ap, _∙_}
 use lib.ListN.{length}
 use Rattle.join.specs.declared.Joining.{Joining}
 use Rattle.answers.specs.Answer.{numbers, numberAlone}
-use Rattle.answers.specs.RoundAnswer.{joiningNumbers}
+use Rattle.round_answers.specs.RoundAnswer.{joiningNumbers}
 use Rattle.answers.proofs.Given.{of-same, beside}
 
 join-requires : tie.Need-join-requires

@@ -9,7 +9,7 @@ use mir.ValLaws.{toZ-ofZ}
 use Rattle.intents.specs.Intents.{reconcilingNumber}
 use Rattle.intents.specs.declared.Reconciling.{Reconciling}
 use Rattle.answers.specs.Answer.{roomNumber, unlessShort}
-use Rattle.answers.specs.RoundAnswer.{reconcilingBytes}
+use Rattle.marks_answers.specs.IntentsAnswer.{reconcilingBytes}
 use Rattle.answers.proofs.Given.{beside}
 
 lent-reconciling-requires : tie.Need-lent-reconciling-requires

@@ -8,7 +8,7 @@ use mir.Syntax.{w64}
 use mir.ValLaws.{toZ-ofZ}
 use Rattle.rounds.specs.declared.Rounded.{Rounded}
 use Rattle.answers.specs.Answer.{numbers, numberAlone}
-use Rattle.answers.specs.RoundAnswer.{roundedNumbers}
+use Rattle.round_answers.specs.RoundAnswer.{roundedNumbers}
 use Rattle.answers.proofs.Given.{of-same, beside}
 
 round-requires : tie.Need-round-requires

@@ -1,0 +1,71 @@
+// The numbers of what `drift` answers.
+ghost use mathlib.Core.Path.{_≡_};
+ghost use Rattle.answers.specs.Answer.{numbers};
+ghost use Rattle.drift_answers.specs.DriftAnswer.{driftNumbers, heldNumbers};
+use answers::Numbers;
+use drift::held::Held;
+use drift::report::Drift;
+
+pub fn drift_numbers(d: Drift) -> Numbers
+    ensures { λ n. ⌜ n ≡ numbers (driftNumbers d) ⌝ }
+{
+    match d {
+        Drift::Done(n, x) => Numbers {
+            refusal: 0,
+            a: n as u64,
+            b: float::bits::to_bits(x),
+        },
+        Drift::Oversize => Numbers {
+            refusal: 1,
+            a: 0,
+            b: 0,
+        },
+        Drift::Broken => Numbers {
+            refusal: 2,
+            a: 0,
+            b: 0,
+        },
+        Drift::BadWeight => Numbers {
+            refusal: 11,
+            a: 0,
+            b: 0,
+        },
+        Drift::OutOfRange => Numbers {
+            refusal: 12,
+            a: 0,
+            b: 0,
+        },
+        Drift::NoRoom => Numbers {
+            refusal: 3,
+            a: 0,
+            b: 0,
+        },
+    }
+}
+
+pub fn held_numbers(h: Held) -> Numbers
+    ensures { λ n. ⌜ n ≡ numbers (heldNumbers h) ⌝ }
+{
+    match h {
+        Held::Value(v) => Numbers {
+            refusal: 0,
+            a: wire::unsigned(v),
+            b: 0,
+        },
+        Held::Oversize => Numbers {
+            refusal: 1,
+            a: 0,
+            b: 0,
+        },
+        Held::Broken => Numbers {
+            refusal: 2,
+            a: 0,
+            b: 0,
+        },
+        Held::OutOfRange => Numbers {
+            refusal: 12,
+            a: 0,
+            b: 0,
+        },
+    }
+}

@@ -1,0 +1,119 @@
+// The answers about a log: the numbers of what `audit`, `sequence` and `reply` answer.
+ghost use mathlib.Core.Path.{_≡_};
+ghost use Rattle.audit.specs.Verdict.{verdictNumbers};
+ghost use Rattle.sequence.specs.Sequence.{highestNumbers, windowNumbers};
+ghost use Rattle.reply.specs.Reply.{repliedNumbers};
+ghost use Rattle.answers.specs.Answer.{numbers, numberAlone};
+use answers::Numbers;
+use audit::validate::Verdict;
+use reply::Replied;
+use sequence::Highest;
+use sequence::Window;
+
+pub fn verdict_numbers(v: Verdict) -> Numbers
+    ensures { λ n. ⌜ n ≡ numbers (verdictNumbers v) ⌝ }
+{
+    match v {
+        Verdict::Accepted => Numbers {
+            refusal: 0,
+            a: 0,
+            b: 0,
+        },
+        Verdict::Oversize => Numbers {
+            refusal: 1,
+            a: 0,
+            b: 0,
+        },
+        Verdict::Broken => Numbers {
+            refusal: 2,
+            a: 0,
+            b: 0,
+        },
+        Verdict::Unnumbered(i) => Numbers {
+            refusal: 4,
+            a: i as u64,
+            b: 0,
+        },
+        Verdict::NotRising(i) => Numbers {
+            refusal: 5,
+            a: i as u64,
+            b: 0,
+        },
+        Verdict::Missing(k) => Numbers {
+            refusal: 6,
+            a: 0,
+            b: k.number() as u64,
+        },
+        Verdict::OutOfOrder(k) => Numbers {
+            refusal: 7,
+            a: 0,
+            b: k.number() as u64,
+        },
+    }
+}
+
+pub fn highest_numbers(h: Highest) -> Numbers
+    ensures { λ n. ⌜ n ≡ numbers (numberAlone (highestNumbers h)) ⌝ }
+{
+    match h {
+        Highest::Is(n) => Numbers {
+            refusal: 0,
+            a: n,
+            b: 0,
+        },
+        Highest::Oversize => Numbers {
+            refusal: 1,
+            a: 0,
+            b: 0,
+        },
+        Highest::Broken => Numbers {
+            refusal: 2,
+            a: 0,
+            b: 0,
+        },
+    }
+}
+
+pub fn window_numbers(w: Window) -> Numbers
+    ensures { λ n. ⌜ n ≡ numbers (windowNumbers w) ⌝ }
+{
+    match w {
+        Window::Is(n) => Numbers {
+            refusal: 0,
+            a: 1,
+            b: n,
+        },
+        Window::Never => Numbers {
+            refusal: 0,
+            a: 0,
+            b: 0,
+        },
+        Window::Oversize => Numbers {
+            refusal: 1,
+            a: 0,
+            b: 0,
+        },
+        Window::Broken => Numbers {
+            refusal: 2,
+            a: 0,
+            b: 0,
+        },
+    }
+}
+
+pub fn reply_numbers(r: Replied) -> Numbers
+    ensures { λ n. ⌜ n ≡ numbers (numberAlone (repliedNumbers r)) ⌝ }
+{
+    match r {
+        Replied::Done(n) => Numbers {
+            refusal: 0,
+            a: n as u64,
+            b: 0,
+        },
+        Replied::NoRoom => Numbers {
+            refusal: 3,
+            a: 0,
+            b: 0,
+        },
+    }
+}

@@ -1,4 +1,4 @@
--- The definitions computed: an example of drift, refusals in their order, and held value.
+-- The definitions computed: an example of drift, and refusals in their order.
 -- Assumes nothing.
 use Prim.Native.Nat.{ℕ, _*_, _-_, _^_}
 use mathlib.Core.Path.{_≡_, refl}
@@ -14,14 +14,12 @@ use Rattle.symbol.specs.Symbol.{symbolOf, wideFieldBytes, wideFieldOk, bytesBef
 use Rattle.drift.specs.Rows.{valued}
 use Rattle.drift.specs.Entry.{entryBytes}
 use Rattle.drift.specs.Report.{driftNumber, driftOf, driftBytes}
-use Rattle.drift.specs.Value.{heldOf}
 use Rattle.drift.specs.declared.report.Drift.the-variants as D
-use Rattle.drift.specs.declared.held.Held.the-variants as H
 
-abbrev row : List ℕ → ℕ → List ℕ
+abbrev pub row : List ℕ → ℕ → List ℕ
 row text bits = wideFieldBytes (symbolOf text) ++ bytesOf 8 bits
 
-abbrev position : List ℕ → ℤ → List ℕ
+abbrev pub position : List ℕ → ℤ → List ℕ
 position text quantity = row text (ofZ w64 quantity) ++ bytesOf 8 7
 
 -- B 3, A -2, A 10; AA 0.25, A 0.5, A -0.125; A 200, B 100, B 150
@@ -73,22 +71,3 @@ drift-not-needed = refl
 drift-difference : driftNumber (driftOf (position (65 ∷ []) (negsuc 1)) (row (65 ∷ []) 0x3ff0000000000000) (row (65 ∷ []) 1) (pos (2 ^ 63 - 1)) 64) ≡ 12
 unfolding driftOf le bytesOf every records wideFieldOk bytesBefore valued ofBits
 drift-difference = refl
-
--- ---- held value: a running sum may leave i64, a product and the total may not
-held-sum : heldOf (position (65 ∷ []) (pos (2 ^ 62)) ++ position (66 ∷ []) (pos (2 ^ 62)) ++ position (67 ∷ []) (negsuc 9)) (row (65 ∷ []) 1 ++ row (66 ∷ []) 1 ++ row (67 ∷ []) 1)
-    ≡ H.Value (pos (2 ^ 63 - 10))
-unfolding heldOf le bytesOf every records wideFieldOk bytesBefore valued
-held-sum = refl
-
-held-total : heldOf (position (65 ∷ []) (pos (2 ^ 62)) ++ position (66 ∷ []) (pos (2 ^ 62))) (row (65 ∷ []) 1 ++ row (66 ∷ []) 1) ≡ H.OutOfRange
-unfolding heldOf le bytesOf every records wideFieldOk bytesBefore valued
-held-total = refl
-
-held-product : heldOf (position (65 ∷ []) (pos (2 ^ 62))) (row (65 ∷ []) 4) ≡ H.OutOfRange
-unfolding heldOf le bytesOf every records wideFieldOk bytesBefore valued
-held-product = refl
-
--- the last price is 0 and hides the one before
-held-hidden : heldOf (position (65 ∷ []) (pos (2 ^ 62))) (row (65 ∷ []) 4 ++ row (65 ∷ []) 0) ≡ H.Value (pos 0)
-unfolding heldOf le bytesOf every records wideFieldOk bytesBefore valued
-held-hidden = refl

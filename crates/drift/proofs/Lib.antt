@@ -1,6 +1,5 @@
 pub mod Keys
 pub mod Integers
-pub mod Totals
 pub mod Weights
 pub mod Answers
 pub mod Opened
@@ -13,6 +12,5 @@ pub mod Looked
 pub mod Runs
 pub mod Lines
 pub mod Refusals
-pub mod Valued
 pub mod Sorted
 pub mod DriftExamples

@@ -1,24 +1,20 @@
--- The refusals of `reconcile` and `held_value`, in their order.
+-- The refusals of `reconcile`, in their order.
 -- Assumes nothing.
 use Prim.Native.Nat.{ℕ}
 use mathlib.Core.Path.{_≡_, refl}
 use mathlib.Core.Bool.{true, false}
-use mathlib.Core.List.{List, [], map}
+use mathlib.Core.List.{List}
 use native.Mathlib.Omega.{arith}
 use lib.IntN.{ℤ}
 use lib.ListN.{replicate}
 use Rattle.wire.specs.Layout.{bothOf}
 use Rattle.wire.specs.declared.layout.Layout.{Layout}
 use Rattle.wire.specs.declared.layout.Layout.the-variants as Lay
-use Rattle.wire.specs.Table.{every, records}
-use Rattle.records.specs.Record.{tableOk}
-use Rattle.drift.specs.Rows.{valued, heldIn, targetsIn, pricesIn, rowsLayout}
+use Rattle.drift.specs.Rows.{heldIn, targetsIn, pricesIn, rowsLayout}
 use Rattle.drift.specs.Symbols.{allWhere}
 use Rattle.drift.specs.Entry.{weightOk}
 use Rattle.drift.specs.Report.{linesOf, reportOf, outputOf, values, listsLayout, driftOf, driftBytes}
-use Rattle.drift.specs.Value.{worth, valueOf, heldOf}
 use Rattle.drift.specs.Code.{SoundLists}
-use Rattle.drift.specs.declared.held.Held.the-variants as H
 use Rattle.drift.specs.declared.report.Drift.{Drift}
 use Rattle.drift.specs.declared.report.Drift.the-variants as D
 
@@ -64,26 +60,3 @@ module _ (p t q : List ℕ) (equity : ℤ) (room : ℕ) where
   pub report-bytes : (r : Drift) → r ≡ driftOf p t q equity room → outputOf r (linesOf (heldIn p) (targetsIn t) (pricesIn q)) equity room ≡ driftBytes p t q equity room
   unfolding driftBytes
   report-bytes r e = rw e
-
--- ---- an empty list: it is sound, and targets nothing
-pub empty-sound : rowsLayout 24 [] ≡ Lay.Sound
-unfolding rowsLayout tableOk every
-empty-sound = refl
-
-pub none-targeted : targetsIn [] ≡ []
-unfolding valued records
-none-targeted = refl
-
--- ---- held value
-module _ (p q : List ℕ) where
-  pub held-oversize : bothOf (rowsLayout 32 p) (rowsLayout 24 q) ≡ Lay.Oversize → H.Oversize ≡ heldOf p q
-  unfolding heldOf
-  held-oversize e = rw e
-
-  pub held-broken : bothOf (rowsLayout 32 p) (rowsLayout 24 q) ≡ Lay.Broken → H.Broken ≡ heldOf p q
-  unfolding heldOf
-  held-broken e = rw e
-
-  pub held-sound : bothOf (rowsLayout 32 p) (rowsLayout 24 q) ≡ Lay.Sound → valueOf (map worth (linesOf (heldIn p) [] (pricesIn q))) ≡ heldOf p q
-  unfolding heldOf
-  held-sound e = rw e

@@ -1,4 +1,4 @@
--- The lines in the arrays, one after the other: what the loops of `report::write_entries` and `held::sum_worth` ask.
+-- The lines in the arrays, one after the other: what the loops of `report::write_entries` and of `held::sum_worth` ask.
 -- Assumes nothing.
 use Prim.Native.Nat.{ℕ, zero, suc, _+_, _-_, _*_, _≤_, _<_}
 use mathlib.Core.Path.{_≡_, refl, sym, ap, _∙_}
@@ -9,18 +9,16 @@ use native.Mathlib.Omega.{arith}
 use borrow.Author.Tests.{le-leb, lt-leb}
 use lib.IntN.{ℤ}
 use lib.Ieee.{Float, binary64, add, mul, ofBits}
-use lib.ListN.{length, replicate, length-map}
+use lib.ListN.{length, replicate}
 use lib.Seq.{sets}
 use Rattle.wire.specs.Table.{encoded, padded}
 use Rattle.wire.proofs.Records.{sets-append, padded-none, padded-behind, length-encoded}
 use Rattle.drift.specs.Symbols.{allWhere}
-use Rattle.drift.specs.Entry.{Line, fits64, lineEntry, lineFits, lineBytes}
+use Rattle.drift.specs.Entry.{Line, lineEntry, lineFits, lineBytes}
 use Rattle.drift.specs.Report.{squares, trackingError, reportOf}
-use Rattle.drift.specs.Value.{worth}
-use Rattle.drift.specs.Code.{run, raised}
+use Rattle.drift.specs.Code.{run}
 use Rattle.drift.specs.declared.report.Drift.the-variants as D
 use Rattle.drift.proofs.Bytes64.{entry-size}
-use Rattle.drift.proofs.Totals.{raisedSum}
 
 pub length-run : {A : Type 0} (f : ℕ → A) (k n : ℕ) → length (run f k n) ≡ n
 unfolding run
@@ -106,33 +104,3 @@ module _ (f : ℕ → Line) (n : ℕ) (equity : ℤ) where
       → sum ≡ squares (ofBits binary64 0) (map (lineEntry equity) (run f 0 n)) → D.Done n (trackingError sum n) ≡ reportOf (run f 0 n) equity room
   unfolding reportOf
   done room sum e h q = rw (e, length-run f 0 n, le-leb (64 * n) room h, q)
-
--- ---- held value
-module _ (f : ℕ → Line) (n : ℕ) where
-  pub raised-next : (k : ℕ) → k < n → raisedSum (map worth (left f n k)) ≡ raised (worth (f k)) + raisedSum (map worth (left f n (k + 1)))
-  unfolding raisedSum
-  raised-next k h = rw (left-next f n k h)
-
-  pub raised-end : (k : ℕ) → n ≤ k → raisedSum (map worth (left f n k)) ≡ 0
-  unfolding raisedSum
-  raised-end k h = rw (left-none f n k h)
-
-  pub fits-next : (k : ℕ) → k < n → fits64 (worth (f k)) ≡ true → allWhere fits64 (map worth (left f n k)) ≡ allWhere fits64 (map worth (left f n (k + 1)))
-  unfolding allWhere
-  fits-next k h e = rw (left-next f n k h, e)
-
-  pub fits-stop : (k : ℕ) → k < n → fits64 (worth (f k)) ≡ false → allWhere fits64 (map worth (left f n k)) ≡ false
-  unfolding allWhere
-  fits-stop k h e = rw (left-next f n k h, e)
-
-  pub fits-end : (k : ℕ) → n ≤ k → allWhere fits64 (map worth (left f n k)) ≡ true
-  unfolding allWhere
-  fits-end k h = rw (left-none f n k h)
-
-  pub length-worth : length (map worth (run f 0 n)) ≡ n
-  length-worth = length-map (run f 0 n) worth ∙ length-run f 0 n
-
-pub worth-same : (f g : ℕ → Line) → ((i : ℕ) → worth (f i) ≡ worth (g i)) → (k n : ℕ) → map worth (run f k n) ≡ map worth (run g k n)
-unfolding run
-worth-same f g h k zero = refl
-worth-same f g h k (suc n) = rw (h k) (ap (λ (l : List ℤ). worth (g k) ∷ l) (worth-same f g h (k + 1) n))

@@ -6,7 +6,7 @@ use mathlib.Core.List.{List, [], _∷_}
 use mathlib.Core.Bool.{Bool, true, cond, _&&_}
 use lib.Dec.{eqb, ltb}
 use lib.Count.{leadingZeros}
-use lib.IntN.{ℤ, pos, negsuc, subℕ, _*ℤ_}
+use lib.IntN.{ℤ, _*ℤ_}
 use lib.Ieee.{Float, binary64, ofBits}
 use lib.ListN.{length, take, getD, replicate}
 use mir.Syntax.{w64}
@@ -128,11 +128,3 @@ pub record Filled (n : ℕ) (ws qs ts ps : List ℕ) : Type 0 where
   pub quantities : n ≤ length qs
   pub weights : n ≤ length ts
   pub costs : n ≤ length ps
-
--- ---- a sum of i64s, each 2 ^ 63 more than it is
-abbrev pub raised : ℤ → ℕ
-raised (pos n) = 2 ^ 63 + n
-raised (negsuc n) = 2 ^ 63 - suc n
-
-abbrev pub lowered : ℕ → ℕ → Whole
-lowered s n = wholeOf (subℕ s (n * 2 ^ 63))

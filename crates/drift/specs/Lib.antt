@@ -2,5 +2,4 @@ pub mod Rows
 pub mod Symbols
 pub mod Entry
 pub mod Report
-pub mod Value
 pub mod Code

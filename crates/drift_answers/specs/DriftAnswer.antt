@@ -4,11 +4,11 @@ use lib.Ieee.{binary64, toBits}
 use mir.Syntax.{w64}
 use mir.Val.{ofZ}
 use Rattle.drift.specs.Report.{driftNumber}
-use Rattle.drift.specs.Value.{heldNumber}
+use Rattle.held.specs.Value.{heldNumber}
 use Rattle.drift.specs.declared.report.Drift.{Drift}
 use Rattle.drift.specs.declared.report.Drift.the-variants as D
-use Rattle.drift.specs.declared.held.Held.{Held}
-use Rattle.drift.specs.declared.held.Held.the-variants as H
+use Rattle.held.specs.declared.Held.{Held}
+use Rattle.held.specs.declared.Held.the-variants as H
 
 -- how many entries, and the bits of the tracking error
 abbrev pub driftNumbers : Drift → ℕ × ℕ × ℕ

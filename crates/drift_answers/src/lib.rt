@@ -1,10 +1,10 @@
-// The numbers of what `drift` answers.
+// The numbers of what `drift` and `held` answer.
 ghost use mathlib.Core.Path.{_≡_};
 ghost use Rattle.answers.specs.Answer.{numbers};
 ghost use Rattle.drift_answers.specs.DriftAnswer.{driftNumbers, heldNumbers};
 use answers::Numbers;
-use drift::held::Held;
 use drift::report::Drift;
+use held::Held;
 
 pub fn drift_numbers(d: Drift) -> Numbers
     ensures { λ n. ⌜ n ≡ numbers (driftNumbers d) ⌝ }

@@ -1,9 +1,9 @@
-// The entries of the crate `drift`. Each returns the refusal's number, 0 where there is none. An answer is two u64 in the first sixteen bytes of
+// The entries of the crates `drift` and `held`. Each returns the refusal's number, 0 where there is none. An answer is two u64 in the first sixteen bytes of
 // `answer`, little-endian; all other bytes are zero.
 ghost use mathlib.Core.Path.{_≡_};
 ghost use lib.ListN.{length};
 ghost use Rattle.drift.specs.Report.{driftOf, driftBytes};
-ghost use Rattle.drift.specs.Value.{heldOf};
+ghost use Rattle.held.specs.Value.{heldOf};
 ghost use Rattle.answers.specs.Answer.{unlessShort, answerNumber, answerBytes};
 ghost use Rattle.drift_answers.specs.DriftAnswer.{driftNumbers, heldNumbers};
 
@@ -38,6 +38,6 @@ pub extern "C" fn desk_held_value(positions: &[u8], prices: &[u8], answer: &mut 
     ensures { λ k. ⌜ k ≡ answerNumber (heldNumbers (heldOf (now (positions .entry)) (now (prices .entry))) .0) (length (now (answer .entry))) ⌝ }
     ensures { λ k. ⌜ now (answer .exit) ≡ answerBytes (heldNumbers (heldOf (now (positions .entry)) (now (prices .entry))) .1) (heldNumbers (heldOf (now (positions .entry)) (now (prices .entry))) .2) (length (now (answer .entry))) ⌝ }
 {
-    let n = drift_answers::held_numbers(drift::held::held_value(positions, prices));
+    let n = drift_answers::held_numbers(held::held_value(positions, prices));
     answers::give(n, answer)
 }

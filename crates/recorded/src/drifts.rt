@@ -34,7 +34,7 @@ fn reconciled(tally: &mut [u64], b: &[u8]) {
 
 // Section 7.
 fn held(tally: &mut [u64], b: &[u8]) {
-    let h = drift::held::held_value(body::section(b, 1), body::section(b, 3));
+    let h = held::held_value(body::section(b, 1), body::section(b, 3));
     tally::two(tally, tally::HELD, b, 7, drift_answers::held_numbers(h));
 }
 

@@ -3,8 +3,8 @@ use crate::example;
 use crate::numbers;
 use crate::tell;
 use audit::validate::Verdict;
-use drift::held::Held;
 use drift::report::Drift;
+use held::Held;
 use intents::Reconciling;
 use recovery::recover::Recovered;
 use recovery::recover::Recovery;
@@ -112,7 +112,7 @@ fn tell_held(label: &[u8], h: Held) {
 
 // The held value of positions at prices: refusal, value as 64 bits.
 pub fn held(e: &[u8]) {
-    let h = drift::held::held_value(example::first(e), example::second(e));
+    let h = held::held_value(example::first(e), example::second(e));
     tell_held(example::label(e), h);
 }
 

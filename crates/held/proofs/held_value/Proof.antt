@@ -1,13 +1,14 @@
 -- `held::held_value`: the refusals in their order, then the value.
 use borrow.Author.Needs.{needs}
-use Rattle.drift.proofs.held.held_value.Statement.{statement}
-use Rattle.drift.proofs.held.held_value.Tie as tie
+use Rattle.held.proofs.held_value.Statement.{statement}
+use Rattle.held.proofs.held_value.Tie as tie
 use mathlib.Core.Path.{_≡_, sym, _∙_}
 use denote.Ref.{now}
 use Rattle.wire.specs.Layout.{bothOf}
 use Rattle.wire.specs.declared.layout.Layout.the-variants as Lay
 use Rattle.drift.specs.Rows.{rowsLayout}
-use Rattle.drift.proofs.Refusals.{both-sound, held-oversize, held-broken, held-sound}
+use Rattle.drift.proofs.Refusals.{both-sound}
+use Rattle.held.proofs.Refusals.{held-oversize, held-broken, held-sound}
 
 check-rows-requires : tie.Need-check-rows-requires
 check-rows-requires c κs = search needs

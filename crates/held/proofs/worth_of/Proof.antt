@@ -1,12 +1,12 @@
 -- `held::worth_of`: by the price's sign.
 use borrow.Author.Needs.{needs}
-use Rattle.drift.proofs.held.worth_of.Statement.{statement}
-use Rattle.drift.proofs.held.worth_of.Tie as tie
+use Rattle.held.proofs.worth_of.Statement.{statement}
+use Rattle.held.proofs.worth_of.Tie as tie
 use mathlib.Core.Path.{_∙_}
 use mathlib.Core.Bool.{true, false}
 use mir.Syntax.{w64}
 use mir.ValLaws.{toZ-ofZ}
 use Rattle.drift.proofs.Answers.{sign-test}
 
 times-requires : tie.Need-times-requires
 times-requires c κs = search needs

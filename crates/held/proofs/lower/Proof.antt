@@ -1,7 +1,7 @@
 -- `held::lower`: the number that the code has is 2 ^ 63 more than the total, and within 64 bits where the total is an i64.
 use borrow.Author.Needs.{needs}
-use Rattle.drift.proofs.held.lower.Statement.{statement}
-use Rattle.drift.proofs.held.lower.Tie as tie
+use Rattle.held.proofs.lower.Statement.{statement}
+use Rattle.held.proofs.lower.Tie as tie
 use Prim.Native.Nat.{_+_, _-_, _*_, _/_, _%_, _^_, _<_}
 use mathlib.Core.Path.{_≡_, sym, ap, subst, _∙_}
 use native.Mathlib.Omega.{arith}
@@ -9,9 +9,9 @@ use lib.IntN.{ℤ, negsuc, subℕ, _+ℤ_}
 use mir.Syntax.{w64}
 use mir.Val.{SFits, toZ, ofZ}
 use mir.ValLaws.{toZ-ofZ, toZ-pos}
 use Rattle.drift.specs.declared.whole.Whole.the-variants as Z
 use Rattle.drift.proofs.Integers.{fits-of, is-whole, is-over}
-use Rattle.drift.proofs.Totals.{low-is, low-fits, high-is, high-fits, under, over}
+use Rattle.held.proofs.Totals.{low-is, low-fits, high-is, high-fits, under, over}
 
 add-top : tie.Need-add-top
 add-top c = search needs

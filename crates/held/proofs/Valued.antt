@@ -6,11 +6,11 @@ use mathlib.Core.Bool.{true, false}
 use mathlib.Core.List.{List}
 use lib.IntN.{ℤ, subℕ}
 use lib.ListN.{length}
 use Rattle.drift.specs.Symbols.{allWhere}
 use Rattle.drift.specs.Entry.{fits64}
-use Rattle.drift.specs.Value.{total, valueOf}
-use Rattle.drift.specs.declared.held.Held.the-variants as H
-use Rattle.drift.proofs.Totals.{raisedSum, total-is}
+use Rattle.held.specs.Value.{total, valueOf}
+use Rattle.held.specs.declared.Held.the-variants as H
+use Rattle.held.proofs.Totals.{raisedSum, total-is}
 
 module _ (zs : List ℤ) where
   pub value-product : allWhere fits64 zs ≡ false → H.OutOfRange ≡ valueOf zs

@@ -1,6 +1,6 @@
 -- `held::sum_worth`: what was added and what is left come to the whole; each is raised by 2 ^ 63.
-use Rattle.drift.proofs.held.sum_worth.Statement.{statement}
-use Rattle.drift.proofs.held.sum_worth.Tie as tie
+use Rattle.held.proofs.sum_worth.Statement.{statement}
+use Rattle.held.proofs.sum_worth.Tie as tie
 use borrow.Author.Needs.{needs}
 use Prim.Native.Nat.{ℕ, _+_, _*_, _-_, _/_, _^_, _≤_, _<_}
 use mathlib.Core.Path.{_≡_, sym, ap, _∙_}
@@ -10,16 +10,18 @@ use denote.Ref.{now}
 use mir.Syntax.{w64}
 use mir.Val.{SFits}
 use mir.ValLaws.{toZ-ofZ}
 use Rattle.drift.specs.Symbols.{allWhere}
 use Rattle.drift.specs.Entry.{fits64}
-use Rattle.drift.specs.Value.{worth, total}
-use Rattle.drift.specs.Code.{wholeOf, lineAt, linesAt, raised}
+use Rattle.held.specs.Value.{worth, total}
+use Rattle.drift.specs.Code.{wholeOf, lineAt, linesAt}
 use Rattle.drift.specs.declared.whole.Whole.the-variants as Z
-use Rattle.drift.specs.declared.held.Held.the-variants as H
+use Rattle.held.specs.declared.Held.the-variants as H
 use Rattle.drift.proofs.Answers.{whole-is, whole-over}
-use Rattle.drift.proofs.Totals.{raisedSum, raised-small}
-use Rattle.drift.proofs.Runs.{left, left-all, raised-next, raised-end, fits-next, fits-stop, fits-end, length-worth}
-use Rattle.drift.proofs.Valued.{value-product, value-over, value-is, total-of}
+use Rattle.held.proofs.Totals.{raisedSum, raised-small}
+use Rattle.drift.proofs.Runs.{left, left-all}
+use Rattle.held.specs.Sum.{raised}
+use Rattle.held.proofs.Worths.{raised-next, raised-end, fits-next, fits-stop, fits-end, length-worth}
+use Rattle.held.proofs.Valued.{value-product, value-over, value-is, total-of}
 
 abbrev Inv-loop : tie.InvT-loop
 Inv-loop quantities costs n high₀ low₀ k₀ high low k =

@@ -1,17 +1,21 @@
-// Held value: the sum of quantity × price over held symbols.
+// Held value (`reconcile.rs`): the sum of quantity × price over held symbols, by the arrays of `drift`.
+//
+// Entry: `held_value`. Refused are a list of more than 1,024 rows (1), a list that is not made of rows with right symbol fields (2), and a product or a
+// total outside i64 (12).
 ghost use mathlib.Core.Path.{_≡_};
 ghost use mathlib.Core.List.{[], map};
 ghost use Prim.Native.Nat.{_+_, _*_, _^_, _≤_, _<_};
 ghost use lib.ListN.{length};
 ghost use Rattle.wire.specs.declared.layout.Layout.the-variants.{Sound};
 ghost use Rattle.drift.specs.Rows.{heldIn, pricesIn, rowsLayout};
 ghost use Rattle.drift.specs.Report.{linesOf};
-ghost use Rattle.drift.specs.Value.{worth, worthOf, valueOf, heldOf};
-ghost use Rattle.drift.specs.Code.{linesAt, wholeOf, raised, lowered, Blank};
-use crate::rows;
-use crate::whole;
-use crate::whole::Whole;
-use crate::words;
+ghost use Rattle.held.specs.Value.{worth, worthOf, valueOf, heldOf};
+ghost use Rattle.drift.specs.Code.{linesAt, wholeOf, Blank};
+ghost use Rattle.held.specs.Sum.{raised, lowered};
+use drift::rows;
+use drift::whole;
+use drift::whole::Whole;
+use drift::words;
 use wire::layout;
 use wire::layout::Layout;
 

@@ -1,13 +1,13 @@
 -- `held::raise`: by the half in which the bits lie.
 use borrow.Author.Needs.{needs}
-use Rattle.drift.proofs.held.raise.Statement.{statement}
-use Rattle.drift.proofs.held.raise.Tie as tie
+use Rattle.held.proofs.raise.Statement.{statement}
+use Rattle.held.proofs.raise.Tie as tie
 use Prim.Native.Nat.{ℕ, _+_, _-_, _^_, _≤_, _<_}
 use mathlib.Core.Path.{_≡_, ap, subst, _∙_}
 use mir.Syntax.{w64}
 use mir.Val.{ofZ}
 use mir.ValLaws.{toZ-ofZ}
-use Rattle.drift.proofs.Totals.{raise-low, raise-high}
+use Rattle.held.proofs.Totals.{raise-low, raise-high}
 
 unsigned-requires : tie.Need-unsigned-requires
 unsigned-requires c κs = search needs

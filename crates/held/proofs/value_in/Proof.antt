@@ -1,7 +1,7 @@
 -- `held::value_in`: the lines of what is held, with no targets.
 use borrow.Author.Needs.{needs}
-use Rattle.drift.proofs.held.value_in.Statement.{statement}
-use Rattle.drift.proofs.held.value_in.Tie as tie
+use Rattle.held.proofs.value_in.Statement.{statement}
+use Rattle.held.proofs.value_in.Tie as tie
 use mathlib.Core.Path.{_≡_, refl, sym, ap, subst, _∙_}
 use mathlib.Core.List.{List, [], map}
 use Prim.Native.Nat.{ℕ}
@@ -9,12 +9,12 @@ use denote.Ref.{now}
 use lib.Ieee.{Float}
 use lib.Seq.{drop-length}
 use Rattle.symbol.specs.declared.Symbol.{Symbol}
 use Rattle.drift.specs.Rows.{heldIn, targetsIn, pricesIn, rowsLayout}
 use Rattle.drift.specs.Report.{linesOf}
-use Rattle.drift.specs.Value.{worth, valueOf}
+use Rattle.held.specs.Value.{worth, valueOf}
 use Rattle.drift.specs.Code.{lineAt, Blank}
-use Rattle.drift.proofs.Runs.{worth-same}
-use Rattle.drift.proofs.Refusals.{empty-sound, none-targeted}
+use Rattle.held.proofs.Worths.{worth-same}
+use Rattle.held.proofs.Refusals.{empty-sound, none-targeted}
 
 from-requires : tie.Need-from-requires
 from-requires c κs = search needs

@@ -1,13 +1,13 @@
 -- `held::value`: the arrays have room for what is held.
 use borrow.Author.Needs.{needs}
-use Rattle.drift.proofs.held.value.Statement.{statement}
-use Rattle.drift.proofs.held.value.Tie as tie
+use Rattle.held.proofs.value.Statement.{statement}
+use Rattle.held.proofs.value.Tie as tie
 use mathlib.Core.List.{[]}
 use native.Mathlib.Omega.{arith}
 use denote.Ref.{now}
 use Rattle.symbol.proofs.Text.{bytes-of}
 use Rattle.drift.proofs.Looked.{sound-rows}
 use Rattle.drift.proofs.Lines.{blank}
 
 slice-aggregate-value-in : tie.Need-slice-aggregate-value-in
 slice-aggregate-value-in c = search needs

@@ -13,10 +13,10 @@ use lib.ListN.{length}
 use mir.Syntax.{w64}
 use mir.Val.{SFits, ofZ}
 use Rattle.symbol.proofs.Text.{and-left, and-right}
 use Rattle.drift.specs.Symbols.{allWhere}
 use Rattle.drift.specs.Entry.{fits64}
-use Rattle.drift.specs.Value.{total}
-use Rattle.drift.specs.Code.{raised}
+use Rattle.held.specs.Value.{total}
+use Rattle.held.specs.Sum.{raised}
 
 -- ---- differences of naturals: the same where they are as far apart
 pub sub-same : (a b c d : ℕ) → a + d ≡ c + b → subℕ a b ≡ subℕ c d

@@ -8,12 +8,12 @@ use lib.Signed.{ltZ}
 use Rattle.wire.specs.Layout.{bothOf}
 use Rattle.wire.specs.declared.layout.Layout.{Layout}
 use Rattle.wire.specs.declared.layout.Layout.the-variants as Lay
 use Rattle.drift.specs.Rows.{heldIn, pricesIn, rowsLayout}
 use Rattle.drift.specs.Symbols.{allWhere}
 use Rattle.drift.specs.Entry.{Line, fits64}
 use Rattle.drift.specs.Report.{linesOf}
-use Rattle.drift.specs.declared.held.Held.{Held}
-use Rattle.drift.specs.declared.held.Held.the-variants as H
+use Rattle.held.specs.declared.Held.{Held}
+use Rattle.held.specs.declared.Held.the-variants as H
 
 -- an answer's number in document 01, 0 where it is no refusal
 abbrev pub heldNumber : Held → ℕ

@@ -1,8 +1,10 @@
 // A discrepancy, its record of 48 bytes, and the report that is filled with them in a lent buffer.
 ghost use mathlib.Core.Path.{_≡_};
 ghost use mathlib.Core.List.{[]};
+ghost use Prim.Native.Nat.{_+_, _≤_};
 ghost use lib.ListN.{length};
 ghost use lib.Seq.{sets};
+ghost use Rattle.wire.specs.Le.{bytesOf};
 ghost use Rattle.compare.specs.Report.{before, noSymbol, fieldsOf, discrepancyBytes};
 ghost use Rattle.compare.specs.Buffer.{Adds};
 use cell::TextRef;
@@ -87,29 +89,44 @@ fn fields_of(x: Discrepancy) -> Fields
     }
 }
 
-// Writes the 48 bytes of a discrepancy at a place.
+// Writes a number in the eight bytes at a place, and the 48 bytes of a discrepancy. They are known to be there.
+fn put_word(d: &mut [u8], at: usize, x: u64)
+    requires { ⌜ at + 8 ≤ length (now d) ⌝ }
+    ensures { λ _. ⌜ now (d .exit) ≡ sets (now (d .entry)) at (bytesOf 8 x) ⌝ }
+{
+    d[at] = (x % 256) as u8;
+    d[at + 1] = (x / 0x100 % 256) as u8;
+    d[at + 2] = (x / 0x1_0000 % 256) as u8;
+    d[at + 3] = (x / 0x100_0000 % 256) as u8;
+    d[at + 4] = (x / 0x1_0000_0000 % 256) as u8;
+    d[at + 5] = (x / 0x100_0000_0000 % 256) as u8;
+    d[at + 6] = (x / 0x1_0000_0000_0000 % 256) as u8;
+    d[at + 7] = (x / 0x100_0000_0000_0000 % 256) as u8;
+}
+
 fn put_discrepancy(d: &mut [u8], at: usize, x: Discrepancy)
+    requires { ⌜ at + 48 ≤ length (now d) ⌝ }
     ensures { λ _. ⌜ now (d .exit) ≡ sets (now (d .entry)) at (discrepancyBytes x) ⌝ }
 {
-    if d.len() <= at {
-        return;
-    }
     let f = fields_of(x);
     let symbol = f.symbol;
-    wire::put_u64(d, at, f.kind as u64);
-    wire::put_u64(d, at + 8, symbol.word);
-    wire::put_u64(d, at + 16, symbol.len as u64);
-    wire::put_u64(d, at + 24, f.first);
-    wire::put_u64(d, at + 32, f.second);
-    wire::put_u64(d, at + 40, 0);
+    put_word(d, at, f.kind as u64);
+    put_word(d, at + 8, symbol.word);
+    put_word(d, at + 16, symbol.len as u64);
+    put_word(d, at + 24, f.first);
+    put_word(d, at + 32, f.second);
+    put_word(d, at + 40, 0);
 }
 
 // One discrepancy more, where there is one.
-pub fn note(d: &mut [u8], n: usize, x: Noted) -> Stored
-    ensures { λ r. ⌜ Adds (length (now (d .entry))) (before x []) (Stored.Is n) (now (d .entry)) r (now (d .exit)) ⌝ }
+pub fn note(d: &mut [u8], s: Stored, x: Noted) -> Stored
+    ensures { λ r. ⌜ Adds (length (now (d .entry))) (before x []) s (now (d .entry)) r (now (d .exit)) ⌝ }
 {
     let Noted::Is(y) = x else {
-        return Stored::Is(n);
+        return s;
+    };
+    let Stored::Is(n) = s else {
+        return Stored::Full;
     };
     if n < d.len() / 48 {
         put_discrepancy(d, 48 * n, y);

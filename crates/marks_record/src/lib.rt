@@ -2,8 +2,9 @@
 //
 // `specs/MarksRecord.antt` has the record's layout.
 ghost use mathlib.Core.Path.{_≡_};
-ghost use Prim.Native.Nat.{_<_};
-ghost use lib.ListN.{drop};
+ghost use mathlib.Core.Bool.{not, _&&_};
+ghost use Prim.Native.Nat.{_<_, _≤_};
+ghost use lib.ListN.{length, drop};
 ghost use lib.Seq.{sets};
 ghost use Rattle.wire.specs.Le.{le};
 ghost use Rattle.wire.specs.Table.{every};
@@ -215,6 +216,17 @@ pub fn marks_of(s: &[u8]) -> Marks
     }
 }
 
+// Whether the pair with its flags at a place has an intent and no result.
+pub fn unanswered_at(s: &[u8], flags: usize) -> bool
+    ensures { λ r. ⌜ r ≡ (truthOf (le 1 (drop flags (now (s .entry)))) && not (truthOf (le 1 (drop 1 (drop flags (now (s .entry))))))) ⌝ }
+{
+    let f = wire::from(s, flags);
+    if !truth_at(f, 0) {
+        return false;
+    }
+    !truth_at(f, 1)
+}
+
 fn truths_ok(s: &[u8]) -> bool
     ensures { λ r. ⌜ r ≡ every truthOk 1 10 (now (s .entry)) ⌝ }
 {
@@ -231,25 +243,27 @@ fn truths_ok(s: &[u8]) -> bool
 }
 
 fn number_ok(s: &[u8]) -> bool
+    requires { ⌜ 16 ≤ length (now s) ⌝ }
     ensures { λ r. ⌜ r ≡ numberOk (now (s .entry)) ⌝ }
 {
-    let present = wire::u64_of(s);
+    let present = wire::whole_u64(s);
     if present == 1 {
         return true;
     }
     if present != 0 {
         return false;
     }
-    wire::u64_at(s, 8) == 0
+    wire::whole_u64_at(s, 8) == 0
 }
 
 fn numbers_ok(s: &[u8]) -> bool
+    requires { ⌜ 128 ≤ length (now s) ⌝ }
     ensures { λ r. ⌜ r ≡ every numberOk 16 8 (now (s .entry)) ⌝ }
 {
     let mut at = 0;
     let mut left: u32 = 8;
     while 0 < left {
-        if !number_ok(wire::from(s, at)) {
+        if !number_ok(wire::rest(s, at)) {
             return false;
         }
         at += 16;

@@ -3,6 +3,8 @@ use mathlib.Core.Path.{_≡_, refl, sym, ap, _∙_}
 use borrow.Author.Tests.{eq-eqb, ne-eqb, lt-leb, le-leb, not-true, not-false}
 use Rattle.marks_record.specs.MarksRecord.{marksOk}
 use borrow.Author.Needs.{needs}
+use native.Mathlib.Omega.{arith}
+use lib.ListN.{length-drop}
 use Rattle.marks_record.proofs.check.Statement.{statement}
 use Rattle.marks_record.proofs.check.Tie as tie
 
@@ -94,7 +96,7 @@ from-requires-2 : tie.Need-from-requires-2
 from-requires-2 c κs = search needs
 
 numbers-ok-requires : tie.Need-numbers-ok-requires
-numbers-ok-requires c κs = search needs
+numbers-ok-requires c κs = rw (c .from2 .ensures, length-drop) (omega arith)
 
 sound-if-requires : tie.Need-sound-if-requires
 sound-if-requires c κs = search needs

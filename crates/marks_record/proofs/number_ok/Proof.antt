@@ -6,26 +6,26 @@ use mathlib.Core.Path.{_≡_, refl, sym, ap, _∙_}
 use borrow.Author.Tests.{eq-eqb, ne-eqb}
 use Rattle.marks_record.specs.MarksRecord.{numberOk}
 
-u64-of-requires : tie.Need-u64-of-requires
-u64-of-requires c κs = search needs
+whole-u64-requires : tie.Need-whole-u64-requires
+whole-u64-requires c κs = search needs
 
 returns : tie.Need-returns
 unfolding numberOk
 returns c =
-    rw (← c .before .u64-of .ensures, eq-eqb _ _ (c .if1 .taken))
+    rw (← c .before .whole-u64 .ensures, eq-eqb _ _ (c .if1 .taken))
 
 returns-2 : tie.Need-returns-2
 unfolding numberOk
 returns-2 c =
-    rw (← c .before .before .u64-of .ensures, ne-eqb _ _ (c .before .if1 .left), ne-eqb _ _ (c .if2 .taken))
+    rw (← c .before .before .whole-u64 .ensures, ne-eqb _ _ (c .before .if1 .left), ne-eqb _ _ (c .if2 .taken))
 
-u64-at-requires : tie.Need-u64-at-requires
-u64-at-requires c κs = search needs
+whole-u64-at-requires : tie.Need-whole-u64-at-requires
+whole-u64-at-requires c κs = search needs
 
 returns-3 : tie.Need-returns-3
 unfolding numberOk
 returns-3 c =
-    rw (← c .before .before .before .u64-of .ensures, ← c .u64-at .ensures, ne-eqb _ _ (c .before .before .if1 .left), eq-eqb _ _ (c .before .if2 .left))
+    rw (← c .before .before .before .whole-u64 .ensures, ← c .whole-u64-at .ensures, ne-eqb _ _ (c .before .before .if1 .left), eq-eqb _ _ (c .before .if2 .left))
 
 pub number-ok-spec : {M : Type 1} → statement M
-number-ok-spec = tie.close (tie.spec u64-of-requires returns returns-2 u64-at-requires returns-3)
+number-ok-spec = tie.close (tie.spec whole-u64-requires returns returns-2 whole-u64-at-requires returns-3)

@@ -2,7 +2,8 @@
 use Prim.Native.Nat.{_+_, _*_}
 use mathlib.Core.Path.{_≡_, refl, sym, ap, _∙_}
 use denote.Ref.{now}
-use lib.ListN.{drop}
+use native.Mathlib.Omega.{arith}
+use lib.ListN.{drop, length-drop}
 use borrow.Author.Needs.{needs}
 use borrow.Author.Tests.{not-true, not-false}
 use Rattle.wire.specs.Table.{every}
@@ -21,17 +22,17 @@ abbrev μ-loop : tie.MeasureT-loop
 loop-holds : tie.Need-loop-holds Inv-loop μ-loop
 loop-holds c = (search needs, refl)
 
-from-requires : tie.Need-from-requires Inv-loop μ-loop
-from-requires c κs = search needs
+rest-requires : tie.Need-rest-requires Inv-loop μ-loop
+rest-requires c κs = search needs
 
 number-ok-requires : tie.Need-number-ok-requires Inv-loop μ-loop
-number-ok-requires c κs = search needs
+number-ok-requires c κs = rw (c .rest .ensures, length-drop) (omega arith)
 
 returns : tie.Need-returns Inv-loop μ-loop
 returns c =
     let a = c .before .before .before .before .before .before .args in
     let l = c .before .before .before .before .loop in
-    sym (l .inv .1 ∙ every-fails numberOk 16 (l .left) (l .at) (now (a .s)) (c .before .before .before .loop-test .taken) (ap numberOk (sym (c .before .before .from .ensures)) ∙ sym (c .before .number-ok .ensures) ∙ not-true _ (c .if1 .taken)))
+    sym (l .inv .1 ∙ every-fails numberOk 16 (l .left) (l .at) (now (a .s)) (c .before .before .before .loop-test .taken) (ap numberOk (sym (c .before .before .rest .ensures)) ∙ sym (c .before .number-ok .ensures) ∙ not-true _ (c .if1 .taken)))
 
 add-at : tie.Need-add-at Inv-loop μ-loop
 add-at c = search needs
@@ -46,7 +47,7 @@ loop-again : tie.Need-loop-again Inv-loop μ-loop
 loop-again c =
     let a = c .before .before .before .before .before .before .args in
     let l = c .before .before .before .before .loop in
-    (search needs, l .inv .1 ∙ every-goes numberOk 16 (l .left) (l .at) (now (a .s)) (c .before .before .before .loop-test .taken) (ap numberOk (sym (c .before .before .from .ensures)) ∙ sym (c .before .number-ok .ensures) ∙ not-false _ (c .if1 .left)))
+    (search needs, l .inv .1 ∙ every-goes numberOk 16 (l .left) (l .at) (now (a .s)) (c .before .before .before .loop-test .taken) (ap numberOk (sym (c .before .before .rest .ensures)) ∙ sym (c .before .number-ok .ensures) ∙ not-false _ (c .if1 .left)))
 
 returns-2 : tie.Need-returns-2 Inv-loop μ-loop
 returns-2 c =
@@ -61,7 +62,7 @@ numbers-ok-spec =
     Inv-loop
     μ-loop
     loop-holds
-    from-requires
+    rest-requires
     number-ok-requires
     returns
     add-at

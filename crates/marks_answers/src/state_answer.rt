@@ -3,11 +3,14 @@ ghost use mathlib.Core.Path.{_≡_};
 ghost use lib.ListN.{length};
 ghost use Rattle.wire.specs.Layout.{bothOf};
 ghost use Rattle.book.specs.Layout.{bookLayout};
+ghost use Rattle.marks_record.specs.MarksRecord.{marksOf};
+ghost use Rattle.compare.specs.Buffer.{unansweredOf};
 ghost use Rattle.answers.specs.Answer.{numbers};
 ghost use Rattle.marks_answers.specs.LentMarks.{marksFirst};
 ghost use Rattle.marks_answers.specs.StateAnswer.{equalityNumbers, comparisonNumbers, lentEqualityNumbers, lentComparisonNumbers, lentReport};
 use answers::Numbers;
 use compare::Comparison;
+use compare::Unanswered;
 use state::Equality;
 use wire::layout::Layout;
 
@@ -103,6 +106,18 @@ fn comparison_numbers(c: Comparison) -> Numbers
     }
 }
 
+// What the comparison asks of lent marks.
+fn open_queries(marks: &[u8]) -> Unanswered
+    ensures { λ r. ⌜ r ≡ unansweredOf (marksOf (now (marks .entry))) ⌝ }
+{
+    Unanswered {
+        positions: marks_record::unanswered_at(marks, 34),
+        quotes: marks_record::unanswered_at(marks, 36),
+        account: marks_record::unanswered_at(marks, 38),
+        cancel: marks_record::unanswered_at(marks, 40),
+    }
+}
+
 // The comparison with lent marks into a report.
 pub fn lent_comparison(
     marks: &[u8],
@@ -117,6 +132,6 @@ pub fn lent_comparison(
         wire::clear(report);
         return crate::broken_marks(sheet::check(sheet));
     }
-    let m = marks_record::marks_of(marks);
-    comparison_numbers(compare::compare_broker_state(m, orders, positions, sheet, report))
+    let queries = open_queries(marks);
+    comparison_numbers(compare::compare_unanswered(queries, orders, positions, sheet, report))
 }

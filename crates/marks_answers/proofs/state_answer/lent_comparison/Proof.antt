@@ -3,6 +3,8 @@ use borrow.Author.Needs.{needs}
 use Rattle.marks_answers.proofs.state_answer.lent_comparison.Statement.{statement}
 use Rattle.marks_answers.proofs.state_answer.lent_comparison.Tie as tie
 use mathlib.Core.Path.{sym, _∙_}
+use denote.Ref.{now}
+use Rattle.marks_record.specs.MarksRecord.{marksOf}
 use borrow.Author.Tests.{not-true, not-false}
 
 marks-ok-requires : tie.Need-marks-ok-requires
@@ -28,11 +30,11 @@ returns c =
     let e = sym (ok .marks-ok .ensures) ∙ not-true (ok .marks-ok .result) (test .if1 .taken) in
     (c .broken-marks .ensures ∙ rw (c .before .check .ensures, e), clear .clear .ensures ∙ rw e)
 
-marks-of-requires : tie.Need-marks-of-requires
-marks-of-requires c κs = search needs
+open-queries-requires : tie.Need-open-queries-requires
+open-queries-requires c κs = search needs
 
-compare-broker-state-requires : tie.Need-compare-broker-state-requires
-compare-broker-state-requires c κs = search needs
+compare-unanswered-requires : tie.Need-compare-unanswered-requires
+compare-unanswered-requires c κs = search needs
 
 comparison-numbers-requires : tie.Need-comparison-numbers-requires
 comparison-numbers-requires c κs = search needs
@@ -47,8 +49,9 @@ returns-2 c =
     let test = marks .before in
     let ok = test .before in
     let e = sym (ok .marks-ok .ensures) ∙ not-false (ok .marks-ok .result) (test .if1 .left) in
-    let r = compare .compare-broker-state .ensures in
-    (c .comparison-numbers .ensures ∙ rw (r .0, marks .marks-of .ensures, e), r .1 ∙ rw (marks .marks-of .ensures, e))
+    let a = ok .before .before .before .before .before .before .args in
+    let r = compare .compare-unanswered .ensures (marksOf (now (a .marks))) (marks .open-queries .ensures) in
+    (c .comparison-numbers .ensures ∙ rw (r .0, e), r .1 ∙ rw e)
 
 pub lent-comparison-spec : {M : Type 1} → statement M
 lent-comparison-spec =
@@ -60,8 +63,8 @@ lent-comparison-spec =
     broken-marks-requires
     same-length
     returns
-    marks-of-requires
-    compare-broker-state-requires
+    open-queries-requires
+    compare-unanswered-requires
     comparison-numbers-requires
     same-length-2
     returns-2)

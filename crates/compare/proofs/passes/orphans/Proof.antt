@@ -1,6 +1,6 @@
 -- `passes::orphans`: each record of the sheet in turn.
 use borrow.Author.Needs.{needs}
-use Prim.Native.Nat.{ℕ, _-_, _≤_, _<_}
+use Prim.Native.Nat.{ℕ, _-_, _<_}
 use mathlib.Core.Path.{refl, ap, _∙_}
 use mathlib.Core.List.{List}
 use denote.Ref.{now}
@@ -20,7 +20,8 @@ abbrev from : List ℕ → List ℕ → ℕ → List Discrepancy
 from orders sheet i = pass (orphan (ordersIn orders)) (drop i (sheetOrders sheet))
 
 abbrev Inv-loop : tie.InvT-loop
-Inv-loop out₀ orders sheet m s₀ i₀ out s i = Left (length out₀) (pass (orphan (ordersIn orders)) (sheetOrders sheet)) s₀ out₀ (from orders sheet i) s out
+Inv-loop out₀ orders sheet m s₀ i₀ out s i =
+    Left (length out₀) (pass (orphan (ordersIn orders)) (sheetOrders sheet)) s₀ out₀ (from orders sheet i) s out
 
 abbrev μ-loop : tie.MeasureT-loop
 μ-loop out₀ orders sheet m s₀ i₀ out s i = m - i
@@ -60,8 +61,12 @@ loop-again c =
     let l = c .before .before .before .before .before .before .before .loop in
     let x = c .before .before .before .orphan in
     let r = c .before .before .note in
-    let h : l .i < orderCount (now (a .sheet)) = rw (← c .before .before .before .before .before .before .before .before .order-count .ensures) (c .before .before .before .before .before .before .loop-test .taken) in
-    left-on _ _ (a .stored) (now (a .out)) _ (l .s) (l .out) (l .inv) (x .result) _ (pass-on _ _ _ _ _ (orders-step (now (a .sheet)) (l .i) h) (x .ensures ∙ ap (orphan (ordersIn (now (a .orders)))) (c .before .before .before .before .order-at .ensures))) (r .result) (r .last .0) (r .kept .0) (r .ensures)
+    let h : l .i < orderCount (now (a .sheet)) =
+        rw (← c .before .before .before .before .before .before .before .before .order-count .ensures) (c .before .before .before .before .before .before .loop-test .taken) in
+    left-on _ _ (a .stored) (now (a .out)) _ (l .s) (l .out) (l .inv) (x .result) _
+    (pass-on _ _ _ _ _ (orders-step (now (a .sheet)) (l .i) h)
+    (x .ensures ∙ ap (orphan (ordersIn (now (a .orders)))) (c .before .before .before .before .order-at .ensures)))
+    (r .result) (r .last .0) (r .kept .0) (r .ensures)
 
 same-length : tie.Need-same-length Inv-loop μ-loop
 same-length c = c .before .loop .inv .0
@@ -70,7 +75,8 @@ returns : tie.Need-returns Inv-loop μ-loop
 returns c =
     let a = c .before .before .before .before .before .before .args in
     let l = c .before .loop in
-    left-none _ _ (a .stored) (now (a .out)) _ (l .s) (l .out) (l .inv) (pass-over _ _ (orders-end (now (a .sheet)) (l .i) (rw (← c .before .before .order-count .ensures) (c .loop-test .left))))
+    left-none _ _ (a .stored) (now (a .out)) _ (l .s) (l .out) (l .inv)
+    (pass-over _ _ (orders-end (now (a .sheet)) (l .i) (rw (← c .before .before .order-count .ensures) (c .loop-test .left))))
 
 pub orphans-spec : {M : Type 1} → statement M
 orphans-spec =

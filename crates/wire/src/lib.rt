@@ -1,8 +1,8 @@
 // Little-endian numbers in lent bytes: read from a slice, written into one, and whole slices copied, cleared and compared.
 //
-// Reading past the end gives zeros, and what would be written past the end is dropped. Only `rest` and the `whole_` readers have a `requires`:
-// they read bytes that a caller knows to be there, with no test. The contracts cite `specs/Le.antt`; `specs/Table.antt` and the laws of
-// `proofs/` are for the crates that read and write tables of records.
+// Reading past the end gives zeros, and what would be written past the end is dropped. Only `rest`, the `whole_` readers and `put_whole_u64` have
+// a `requires`: their bytes are known by the caller to be there, so they have no test. The contracts cite `specs/Le.antt`; `specs/Table.antt` and the
+// laws of `proofs/` are for the crates that read and write tables of records.
 pub mod layout;
 
 ghost use mathlib.Core.Path.{_≡_};
@@ -266,6 +266,21 @@ pub fn put_u32(d: &mut [u8], at: usize, x: u32)
     d[at + 3] = (x / 0x100_0000 % 256) as u8;
 }
 
+// Writes a number of eight bytes that are known to be there.
+pub fn put_whole_u64(d: &mut [u8], at: usize, x: u64)
+    requires { ⌜ at + 8 ≤ length (now d) ⌝ }
+    ensures { λ _. ⌜ now (d .exit) ≡ sets (now (d .entry)) at (bytesOf 8 x) ⌝ }
+{
+    d[at] = (x % 256) as u8;
+    d[at + 1] = (x / 0x100 % 256) as u8;
+    d[at + 2] = (x / 0x1_0000 % 256) as u8;
+    d[at + 3] = (x / 0x100_0000 % 256) as u8;
+    d[at + 4] = (x / 0x1_0000_0000 % 256) as u8;
+    d[at + 5] = (x / 0x100_0000_0000 % 256) as u8;
+    d[at + 6] = (x / 0x1_0000_0000_0000 % 256) as u8;
+    d[at + 7] = (x / 0x100_0000_0000_0000 % 256) as u8;
+}
+
 pub fn put_u64(d: &mut [u8], at: usize, x: u64)
     ensures { λ _. ⌜ now (d .exit) ≡ sets (now (d .entry)) at (bytesOf 8 x) ⌝ }
 {
@@ -276,14 +291,7 @@ pub fn put_u64(d: &mut [u8], at: usize, x: u64)
         put(d, at, 8, x);
         return;
     }
-    d[at] = (x % 256) as u8;
-    d[at + 1] = (x / 0x100 % 256) as u8;
-    d[at + 2] = (x / 0x1_0000 % 256) as u8;
-    d[at + 3] = (x / 0x100_0000 % 256) as u8;
-    d[at + 4] = (x / 0x1_0000_0000 % 256) as u8;
-    d[at + 5] = (x / 0x100_0000_0000 % 256) as u8;
-    d[at + 6] = (x / 0x1_0000_0000_0000 % 256) as u8;
-    d[at + 7] = (x / 0x100_0000_0000_0000 % 256) as u8;
+    put_whole_u64(d, at, x);
 }
 
 // Writes the bytes of `s` from `at` on.

@@ -8,6 +8,7 @@ use native.Mathlib.Omega.{arith}
 use lib.IntN.{ℤ}
 use lib.ListN.{replicate}
 use Rattle.wire.specs.Layout.{bothOf}
+use Rattle.wire.proofs.Layouts.{both-sound}
 use Rattle.wire.specs.declared.layout.Layout.{Layout}
 use Rattle.wire.specs.declared.layout.Layout.the-variants as Lay
 use Rattle.drift.specs.Rows.{heldIn, targetsIn, pricesIn, rowsLayout}
@@ -17,20 +18,6 @@ use Rattle.drift.specs.Report.{linesOf, reportOf, outputOf, values, list
 use Rattle.drift.specs.Code.{SoundLists}
 use Rattle.drift.specs.declared.report.Drift.{Drift}
 use Rattle.drift.specs.declared.report.Drift.the-variants as D
-
-never : {A : Type 0} → Lay.Oversize ≡ Lay.Sound → A
-never h = let z : _≡_ {A = ℕ} 0 1 = cc in absurd (omega arith)
-
-never-broken : {A : Type 0} → Lay.Broken ≡ Lay.Sound → A
-never-broken h = let z : _≡_ {A = ℕ} 0 1 = cc in absurd (omega arith)
-
--- two layouts that are sound together are each sound
-pub both-sound : (a b : Layout) → bothOf a b ≡ Lay.Sound → (a ≡ Lay.Sound) × (b ≡ Lay.Sound)
-both-sound Lay.Sound b e = (refl, e)
-both-sound Lay.Oversize b e = never e
-both-sound Lay.Broken Lay.Sound e = never-broken e
-both-sound Lay.Broken Lay.Oversize e = never e
-both-sound Lay.Broken Lay.Broken e = never-broken e
 
 pub sound-lists : (p t q : List ℕ) → listsLayout p t q ≡ Lay.Sound → SoundLists p t q
 sound-lists p t q e =

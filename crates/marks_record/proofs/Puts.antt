@@ -19,9 +19,6 @@ use Rattle.marks.specs.declared.Marks.{Marks}
 use Rattle.marks.specs.declared.Pair.{Pair}
 use Rattle.marks_record.specs.MarksRecord.{truthNumber, numberBytes, headBytes, flagBytes, flagsBytes, pairBytes, pairsBytes, marksBytes}
 
-pub two-words : (d : List ℕ) (at x y : ℕ) → sets (sets d at (bytesOf 8 x)) (at + 8) (bytesOf 8 y) ≡ sets d at (bytesOf 8 x ++ bytesOf 8 y)
-two-words d at x y = sym (sets-number 8 x (bytesOf 8 y) d at)
-
 -- a list behind another of known length
 pub behind : (n : ℕ) (s t d : List ℕ) (at : ℕ) → length s ≡ n → sets (sets d at s) (at + n) t ≡ sets d at (s ++ t)
 behind n s t d at e = sym (sets-append d s t at ∙ ap (λ (k : ℕ). sets (sets d at s) (at + k) t) e)

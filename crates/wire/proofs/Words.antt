@@ -29,6 +29,9 @@ bytes-add (suc n) m x y h =
 pub sets-number : (n x : ℕ) (t d : List ℕ) (at : ℕ) → sets d at (bytesOf n x ++ t) ≡ sets (sets d at (bytesOf n x)) (at + n) t
 sets-number n x t d at = sets-append d (bytesOf n x) t at ∙ ap (λ (k : ℕ). sets (sets d at (bytesOf n x)) (at + k) t) (length-bytesOf n x)
 
+pub two-words : (d : List ℕ) (at x y : ℕ) → sets (sets d at (bytesOf 8 x)) (at + 8) (bytesOf 8 y) ≡ sets d at (bytesOf 8 x ++ bytesOf 8 y)
+two-words d at x y = sym (sets-number 8 x (bytesOf 8 y) d at)
+
 -- four and eight bytes, each by its own store
 pub four-stores : (d : List ℕ) (at x : ℕ) →
     set (set (set (set d at (x % 256)) (at + 1) (x / 0x100 % 256)) (at + 2) (x / 0x1_0000 % 256)) (at + 3) (x / 0x100_0000 % 256)

@@ -7,7 +7,7 @@ use denote.Ref.{now}
 use Rattle.wire.specs.Layout.{bothOf}
 use Rattle.wire.specs.declared.layout.Layout.the-variants as Lay
 use Rattle.drift.specs.Rows.{rowsLayout}
-use Rattle.drift.proofs.Refusals.{both-sound}
+use Rattle.wire.proofs.Layouts.{both-sound}
 use Rattle.held.proofs.Refusals.{held-oversize, held-broken, held-sound}
 
 check-rows-requires : tie.Need-check-rows-requires

@@ -4,7 +4,7 @@ use Rattle.marks_record.proofs.put_number.Statement.{statement}
 use Rattle.marks_record.proofs.put_number.Tie as tie
 use mathlib.Core.Path.{_≡_, refl, sym, ap, _∙_}
 use denote.Ref.{now}
-use Rattle.marks_record.proofs.Puts.{two-words}
+use Rattle.wire.proofs.Words.{two-words}
 
 enum-known-n : tie.Need-enum-known-n
 enum-known-n c = search needs

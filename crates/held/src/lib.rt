@@ -1,4 +1,4 @@
-// Held value (`reconcile.rs`): the sum of quantity × price over held symbols, by the arrays of `drift`.
+// Held value, which document 01 adds: the sum of quantity × price over held symbols, by the arrays of `drift`.
 //
 // Entry: `held_value`. Refused are a list of more than 1,024 rows (1), a list that is not made of rows with right symbol fields (2), and a product or a
 // total outside i64 (12).

@@ -3,12 +3,15 @@
 mod time;
 
 use std::process::ExitCode;
+use std::sync::atomic::Ordering;
 
 use driver::compare;
 
 const USAGE: &str = "usage: compare KIND SEED COUNT         compares COUNT cases of a kind; stops at the first disagreement
        compare faults KIND SEED COUNT  shows that wrong answers would be seen
        compare time [original]         times of both, or of the original alone, a side of a row to a line
+       compare time apart              the same, each question in lent bytes of its own
+       compare time ROW INPUT          of one row
        compare rows                    the rows that are timed, each with its sides
        compare once ROW INPUT SIDE N   one side of a row, N times
 kinds: runs wild damaged limits sheets queries records drift";
@@ -22,8 +25,13 @@ fn main() -> ExitCode {
     let args: Vec<&str> = args.iter().map(String::as_str).collect();
     let with = |run: fn(&str, u64, u64) -> Result<bool, String>, kind, seed, count| run(kind, number(seed)?, number(count)?);
     let done = match args[..] {
-        ["time"] => time::time(false),
-        ["time", "original"] => time::time(true),
+        ["time"] => time::time(false, None),
+        ["time", "original"] => time::time(true, None),
+        ["time", "apart"] => {
+            time::APART.store(true, Ordering::Relaxed);
+            time::time(false, None)
+        }
+        ["time", row, input] => time::time(false, Some((row, input))),
         ["rows"] => time::list(),
         ["once", row, input, side, times] => number(times).and_then(|times| time::once(row, input, side, times)),
         ["faults", kind, seed, count] => with(compare::faults, kind, seed, count),

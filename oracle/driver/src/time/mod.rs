@@ -8,11 +8,16 @@ use inputs::Folder;
 use measure::{measured, sets};
 use rows::{Row, ROWS};
 
+pub use rows::APART;
+
 /// One line for each side of each row: row, input, size, side, the medians of two sets in microseconds of processor time for one pass over the input,
-/// samples of a set, passes of a sample. With `original`, the library's side is checked but not timed.
-pub fn time(original_only: bool) -> Result<bool, String> {
+/// samples of a set, passes of a sample. With `original_only` the library's side is checked but not timed; with `only` one row is timed.
+pub fn time(original_only: bool, only: Option<(&str, &str)>) -> Result<bool, String> {
     println!("row\tinput\tsize\tside\tfirst\tsecond\tsamples\tpasses");
     for (name, input) in ROWS.iter().flat_map(|(name, inputs)| inputs.iter().map(move |input| (name, input))) {
+        if only.is_some_and(|only| only != (*name, *input)) {
+            continue;
+        }
         let folder = Folder::new()?;
         let row = rows::row(name, input, &folder)?;
         row.check().map_err(|e| format!("{name} on {input}: {e}"))?;

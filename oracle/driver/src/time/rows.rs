@@ -4,6 +4,7 @@ use std::cell::RefCell;
 use std::fmt::Write;
 use std::hint::black_box;
 use std::rc::Rc;
+use std::sync::atomic::{AtomicBool, Ordering};
 
 use oracle::doc01::records::{DISCREPANCY, ORDER, POSITION};
 use oracle::original;
@@ -101,6 +102,9 @@ impl Asked {
     }
 }
 
+/// With it each question keeps bytes of its own.
+pub static APART: AtomicBool = AtomicBool::new(false);
+
 /// Bytes that were lent to a question are lent to the next one, where its rooms are the same: as by a caller that asks again and again.
 fn lend_on(asked: &mut [Asked], i: usize) {
     if let [a, b, ..] = &mut asked[i..] {
@@ -122,7 +126,9 @@ fn asking(size: usize, asked: Vec<Asked>, read: fn(u32, &Asked) -> u64, sides: [
             for i in 0..asked.len() {
                 let number = asked[i].call();
                 sum += read(number, &asked[i]);
-                lend_on(&mut asked, i);
+                if !APART.load(Ordering::Relaxed) {
+                    lend_on(&mut asked, i);
+                }
             }
             sum
         }

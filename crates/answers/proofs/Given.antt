@@ -5,6 +5,7 @@ use mathlib.Core.List.{List}
 use mathlib.Core.Bool.{Bool, true, false, cond}
 use lib.Dec.{eqb}
 use lib.ListN.{replicate}
+use native.Mathlib.Omega.{arith}
 use borrow.Author.Tests.{lt-ltb, le-ltb, eqb-true}
 use Rattle.answers.specs.Answer.{roomNumber, unlessShort, answerNumber, answerBytes}
 use Rattle.answers.specs.declared.Numbers.{Numbers}
@@ -34,6 +35,12 @@ roomy-bytes size room h n s = rw (le-ltb room size h)
 -- ---- the number k and the bytes s are an answer of so many bytes (size) in this room, which says this refusal and the bytes t
 abbrev pub IsWithin : ℕ → ℕ → ℕ → List ℕ → ℕ → List ℕ → Type 0
 IsWithin size refusal room t k s = (k ≡ roomNumber size refusal room) × (s ≡ unlessShort size room room t)
+
+-- the answer that takes the whole room
+pub within-whole : (size refusal : ℕ) {room : ℕ} {t s : List ℕ} → room ≡ size → s ≡ t → IsWithin size refusal room t refusal s
+within-whole size refusal {room = room} {t = t} e f =
+    let h : size ≤ room = omega arith in
+    (roomy-number size refusal room h, f ∙ roomy-bytes size room h room t)
 
 -- one answer for another
 pub within-same : (size : ℕ) {refusal number m room : ℕ} {t u : List ℕ} {k : ℕ} {s : List ℕ}

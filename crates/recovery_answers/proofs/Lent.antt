@@ -1,7 +1,7 @@
 -- A lent record of marks, and recovery's answer, written part by part. About no function. Assumes nothing.
 use Prim.Native.Nat.{ℕ, _<_, _≤_}
 use mathlib.Core.Path.{_≡_, refl, sym, ap, _∙_}
-use mathlib.Core.List.{List, [], _++_, append-nil}
+use mathlib.Core.List.{List, _++_}
 use mathlib.Core.Bool.{Bool, true, false}
 use native.Mathlib.Omega.{arith}
 use lib.Dec.{eqb}
@@ -11,7 +11,6 @@ use borrow.Author.Tests.{lt-ltb, le-ltb, eqb-true}
 use Rattle.wire.specs.Le.{bytesOf}
 use Rattle.wire.specs.Layout.{soundIf, layoutNumber}
 use Rattle.wire.specs.declared.layout.Layout.the-variants as L
-use Rattle.wire.proofs.Records.{sets-over}
 use Rattle.marks.specs.declared.Marks.{Marks}
 use Rattle.marks_record.specs.MarksRecord.{marksBytes, marksOk, marksLayout}
 use Rattle.marks_record.proofs.Puts.{behind, marks-size}
@@ -19,7 +18,7 @@ use Rattle.recovery.specs.declared.recover.Recovered.{Recovered}
 use Rattle.effects.specs.Step.{marksStep}
 use Rattle.reader.specs.Reader.{eventAt, stepped, alteredIf, marksAfter}
 use Rattle.reader.specs.declared.Stepped.{Stepped}
-use Rattle.answers.proofs.Words.{three-words}
+use Rattle.answers.proofs.Words.{all-written, three-words}
 use Rattle.recovery_answers.specs.RecoveryAnswer.{actionCode, recoveredBytes, keptIfShort}
 
 -- ---- recovery's answer, written part by part
@@ -34,11 +33,8 @@ recovered-written d r =
     (marks-size (r .marks))
 
 -- ---- a lent record of marks
-whole : (s t : List ℕ) → length t ≡ length s → sets s 0 t ≡ t
-whole s t e = ap (λ (x : List ℕ). sets x 0 t) (sym (append-nil s)) ∙ sets-over s t [] e ∙ append-nil t
-
 pub record-written : (s : List ℕ) (m : Marks) → length s ≡ 176 → sets s 0 (marksBytes m) ≡ marksBytes m
-record-written s m e = whole s (marksBytes m) (marks-size m ∙ sym e)
+record-written s m e = all-written s (marksBytes m) (marks-size m ∙ sym e)
 
 length-by : (s : List ℕ) (b : Bool) → eqb (length s) 176 ≡ b → marksLayout s ≡ L.Sound → length s ≡ 176
 unfolding marksOk

@@ -2,8 +2,10 @@
 
 mod time;
 
+// Bytes before the code, by which `oracle/performance` moves it: how fast a loop is depends on where its jumps lie.
+std::arch::global_asm!(concat!(".pushsection .text.place,\"axR\",@progbits\n.skip ", env!("PLACE_BYTES"), ", 0x90\n.popsection"));
+
 use std::process::ExitCode;
-use std::sync::atomic::Ordering;
 
 use driver::compare;
 
@@ -11,6 +13,7 @@ const USAGE: &str = "usage: compare KIND SEED COUNT         compares COUNT cases
        compare faults KIND SEED COUNT  shows that wrong answers would be seen
        compare time [original]         times of both, or of the original alone, a side of a row to a line
        compare time apart              the same, each question in lent bytes of its own
+       compare time apart ROOM         the reply to random logs alone, in so many lent bytes
        compare time ROW INPUT          of one row
        compare rows                    the rows that are timed, each with its sides
        compare once ROW INPUT SIDE N   one side of a row, N times
@@ -27,10 +30,8 @@ fn main() -> ExitCode {
     let done = match args[..] {
         ["time"] => time::time(false, None),
         ["time", "original"] => time::time(true, None),
-        ["time", "apart"] => {
-            time::APART.store(true, Ordering::Relaxed);
-            time::time(false, None)
-        }
+        ["time", "apart"] => time::apart(oracle::desk::LENT, None),
+        ["time", "apart", room] => number(room).and_then(|room| time::apart(room as usize, Some(("reply", "random")))),
         ["time", row, input] => time::time(false, Some((row, input))),
         ["rows"] => time::list(),
         ["once", row, input, side, times] => number(times).and_then(|times| time::once(row, input, side, times)),

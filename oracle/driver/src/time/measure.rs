@@ -3,7 +3,7 @@
 use std::hint::black_box;
 
 /// The least time of a sample, and what a set of samples takes about, in nanoseconds.
-const SAMPLE: u128 = 200_000;
+const SAMPLE: u128 = 1_000_000;
 const SET: u128 = 700_000_000;
 const FEWEST: u128 = 9;
 const MOST: u128 = 201;
@@ -45,6 +45,15 @@ fn passed(passes: u128, call: &mut dyn FnMut() -> u64) -> u128 {
     processor() - start
 }
 
+/// Passes for a sample of the least time: doubled until they take it, so that the first passes, which are slow, do not decide.
+fn enough(call: &mut dyn FnMut() -> u64) -> u128 {
+    let mut passes = 1;
+    while passed(passes, call) < SAMPLE {
+        passes *= 2;
+    }
+    passes
+}
+
 fn median(mut of: Vec<f64>) -> f64 {
     of.sort_by(f64::total_cmp);
     of[of.len() / 2]
@@ -54,19 +63,22 @@ pub struct Line {
     pub side: String,
     /// Microseconds for one pass.
     pub medians: [f64; 2],
+    /// How many times the library's time that is: the median over the samples, each beside the library's of the same turn.
+    pub ratios: [f64; 2],
     pub samples: u128,
     pub passes: u128,
 }
 
-/// Two sets of samples of each side. Where a row has the sides `whole` and `parse`, `less` is the median of their differences, sample by sample.
+/// Two sets of samples of each side. Where a row has the sides `whole` and `parse`, `less` is their difference, sample by sample.
 pub fn sets(sides: &mut [(&str, &mut dyn FnMut() -> u64)]) -> Vec<Line> {
-    let passes: Vec<u128> = sides.iter_mut().map(|(_, call)| (SAMPLE / passed(2, *call).max(2) * 2).max(1)).collect();
+    let passes: Vec<u128> = sides.iter_mut().map(|(_, call)| enough(*call)).collect();
     let round: u128 = sides.iter_mut().zip(&passes).map(|((_, call), n)| passed(*n, *call)).sum();
     let samples = (SET / round.max(1)).clamp(FEWEST, MOST) | 1;
-    let mut lines: Vec<Line> = sides.iter().zip(&passes).map(|((side, _), n)| Line { side: side.to_string(), medians: [0.0; 2], samples, passes: *n }).collect();
     let place = |name: &str| sides.iter().position(|(side, _)| *side == name);
-    let both = place("whole").zip(place("parse"));
-    let mut less = [0.0; 2];
+    let (library, both) = (place("library"), place("whole").zip(place("parse")));
+    let line = |side: &str, passes| Line { side: side.to_string(), medians: [0.0; 2], ratios: [0.0; 2], samples, passes };
+    let mut lines: Vec<Line> = sides.iter().zip(&passes).map(|((side, _), n)| line(side, *n)).collect();
+    lines.extend(both.map(|(whole, _)| line("less", passes[whole])));
     for set in 0..2 {
         let mut times: Vec<Vec<f64>> = vec![Vec::new(); sides.len()];
         for _ in 0..samples {
@@ -75,14 +87,14 @@ pub fn sets(sides: &mut [(&str, &mut dyn FnMut() -> u64)]) -> Vec<Line> {
             }
         }
         if let Some((whole, parse)) = both {
-            less[set] = median(times[whole].iter().zip(&times[parse]).map(|(w, p)| w - p).collect());
+            times.push(times[whole].iter().zip(&times[parse]).map(|(w, p)| w - p).collect());
         }
-        for (line, times) in lines.iter_mut().zip(times) {
-            line.medians[set] = median(times);
+        for (line, times_of) in lines.iter_mut().zip(&times) {
+            if let Some(library) = library {
+                line.ratios[set] = median(times_of.iter().zip(&times[library]).map(|(t, l)| t / l).collect());
+            }
+            line.medians[set] = median(times_of.clone());
         }
-    }
-    if let Some((whole, _)) = both {
-        lines.push(Line { side: "less".into(), medians: less, samples, passes: passes[whole] });
     }
     lines
 }

@@ -4,16 +4,16 @@ mod inputs;
 mod measure;
 mod rows;
 
+use std::sync::atomic::Ordering;
+
 use inputs::Folder;
 use measure::{measured, sets};
 use rows::{Row, ROWS};
 
-pub use rows::APART;
-
 /// One line for each side of each row: row, input, size, side, the medians of two sets in microseconds of processor time for one pass over the input,
-/// samples of a set, passes of a sample. With `original_only` the library's side is checked but not timed; with `only` one row is timed.
+/// how many times the library's they are, samples of a set, passes of a sample. With `original_only` the library's side is checked but not timed; with `only` one row is timed.
 pub fn time(original_only: bool, only: Option<(&str, &str)>) -> Result<bool, String> {
-    println!("row\tinput\tsize\tside\tfirst\tsecond\tsamples\tpasses");
+    println!("row\tinput\tsize\tside\tfirst\tsecond\ttimes\ttimes\tsamples\tpasses");
     for (name, input) in ROWS.iter().flat_map(|(name, inputs)| inputs.iter().map(move |input| (name, input))) {
         if only.is_some_and(|only| only != (*name, *input)) {
             continue;
@@ -32,11 +32,18 @@ pub fn time(original_only: bool, only: Option<(&str, &str)>) -> Result<bool, Str
             }
         }
         for line in sets(&mut sides) {
-            let [first, second] = line.medians;
-            println!("{name}\t{input}\t{size}\t{}\t{first:.4}\t{second:.4}\t{}\t{}", line.side, line.samples, line.passes);
+            let ([first, second], [once, again]) = (line.medians, line.ratios);
+            println!("{name}\t{input}\t{size}\t{}\t{first:.4}\t{second:.4}\t{once:.3}\t{again:.3}\t{}\t{}", line.side, line.samples, line.passes);
         }
     }
     Ok(true)
+}
+
+/// Times with each question in lent bytes of its own, a reply in so many.
+pub fn apart(room: usize, only: Option<(&str, &str)>) -> Result<bool, String> {
+    rows::APART.store(true, Ordering::Relaxed);
+    rows::ROOM.store(room, Ordering::Relaxed);
+    time(false, only)
 }
 
 /// The rows' names and inputs, a row to a line, with its sides.

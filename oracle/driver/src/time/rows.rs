@@ -4,7 +4,7 @@ use std::cell::RefCell;
 use std::fmt::Write;
 use std::hint::black_box;
 use std::rc::Rc;
-use std::sync::atomic::{AtomicBool, Ordering};
+use std::sync::atomic::{AtomicBool, AtomicUsize, Ordering};
 
 use oracle::doc01::records::{DISCREPANCY, ORDER, POSITION};
 use oracle::original;
@@ -58,44 +58,45 @@ impl Row {
     }
 }
 
-/// A question to the library, with the bytes that it is lent.
+/// A question to the library, with the bytes that it is lent: the outputs, and the answer behind them.
 struct Asked {
     entry: &'static Entry,
     inputs: Vec<Bytes>,
     numbers: Vec<u64>,
-    lent: Vec<Lent>,
+    lent: Rc<RefCell<Vec<Lent>>>,
 }
 
 impl Asked {
     fn new(entry: &'static Entry, inputs: Vec<Vec<u8>>, numbers: Vec<u64>, rooms: &[usize]) -> Asked {
-        let lent = rooms.iter().chain([&entry.answer]).map(|room| Lent::new(*room)).collect();
+        let lent = Rc::new(RefCell::new(rooms.iter().chain([&entry.answer]).map(|room| Lent::new(*room)).collect()));
         Asked { entry, inputs: inputs.into_iter().map(Bytes::new).collect(), numbers, lent }
     }
 
-    fn call(&mut self) -> u32 {
-        (self.entry.call)(black_box(&self.inputs), &self.numbers, &mut self.lent)
+    fn call(&self) -> u32 {
+        (self.entry.call)(black_box(&self.inputs), &self.numbers, &mut self.lent.borrow_mut())
     }
 
-    fn rooms(&self) -> impl Iterator<Item = usize> + '_ {
-        self.lent.iter().map(|l| l.bytes().len())
+    fn rooms(&self) -> Vec<usize> {
+        self.lent.borrow().iter().map(|l| l.bytes().len()).collect()
     }
 
     /// A word of the answer, from 0.
     fn word(&self, at: usize) -> u64 {
-        let answer = self.lent[self.lent.len() - 1].bytes();
+        let lent = self.lent.borrow();
+        let answer = lent[lent.len() - 1].bytes();
         u64::from_le_bytes(answer[8 * at..8 * at + 8].try_into().expect("eight bytes"))
     }
 
     /// Every byte as the judge has it, and nothing written beside.
-    fn judged(&mut self) -> Result<(), String> {
+    fn judged(&self) -> Result<(), String> {
         let number = self.call();
-        let rooms: Vec<usize> = self.rooms().take(self.entry.outputs).collect();
-        let due = (self.entry.due)(&self.inputs, &self.numbers).within(&rooms);
+        let rooms = &self.rooms()[..self.entry.outputs];
+        let due = (self.entry.due)(&self.inputs, &self.numbers).within(rooms);
         // Of a refusal that gives no bytes every output is zero.
         let none = Vec::new();
         let bytes = (0..rooms.len()).map(|i| due.outputs.get(i).unwrap_or(&none)).chain([&due.answer]);
         let same = |(lent, due): (&Lent, &Vec<u8>)| !lent.beside() && lent.bytes().starts_with(due) && lent.bytes()[due.len()..].iter().all(|b| *b == 0);
-        if number != due.refusal || !self.lent.iter().zip(bytes).all(same) {
+        if number != due.refusal || !self.lent.borrow().iter().zip(bytes).all(same) {
             return Err(format!("{} answers {number} or bytes that are not the judge's, {} due", self.entry.name, due.refusal));
         }
         Ok(())
@@ -105,56 +106,48 @@ impl Asked {
 /// With it each question keeps bytes of its own.
 pub static APART: AtomicBool = AtomicBool::new(false);
 
-/// Bytes that were lent to a question are lent to the next one, where its rooms are the same: as by a caller that asks again and again.
-fn lend_on(asked: &mut [Asked], i: usize) {
-    if let [a, b, ..] = &mut asked[i..] {
-        if a.rooms().eq(b.rooms()) {
-            std::mem::swap(&mut a.lent, &mut b.lent);
+/// The bytes that a reply is lent.
+pub static ROOM: AtomicUsize = AtomicUsize::new(oracle::desk::LENT);
+
+/// Bytes that are lent to a question are lent to the next one, where its rooms are the same: as by a caller that asks again and again.
+fn lend_on(asked: &mut [Asked]) {
+    for i in 1..asked.len() {
+        if asked[i].rooms() == asked[i - 1].rooms() {
+            asked[i].lent = asked[i - 1].lent.clone();
         }
     }
 }
 
 /// A row of questions to one entry. `read` gives the number of an answer that the original's side gives too.
-fn asking(size: usize, asked: Vec<Asked>, read: fn(u32, &Asked) -> u64, sides: [Option<fn(&Given) -> u64>; 3], given: Given) -> Row {
-    let asked = Rc::new(RefCell::new(asked));
+fn asking(size: usize, mut asked: Vec<Asked>, read: fn(u32, &Asked) -> u64, sides: [Option<fn(&Given) -> u64>; 3], given: Given) -> Row {
+    if !APART.load(Ordering::Relaxed) {
+        lend_on(&mut asked);
+    }
+    let asked = Rc::new(asked);
     let given = Rc::new(given);
     let library = {
         let asked = asked.clone();
-        move || {
-            let mut asked = asked.borrow_mut();
-            let mut sum = 0;
-            for i in 0..asked.len() {
-                let number = asked[i].call();
-                sum += read(number, &asked[i]);
-                if !APART.load(Ordering::Relaxed) {
-                    lend_on(&mut asked, i);
-                }
-            }
-            sum
-        }
+        move || asked.iter().map(|a| read(a.call(), a)).fold(0, u64::wrapping_add)
     };
     let [parsed, whole, parse] = sides.map(|side| {
         let given = given.clone();
         side.map(|side| Box::new(move || side(black_box(&given))) as Side)
     });
     let judged = move || {
-        let mut sum = 0;
-        for a in asked.borrow_mut().iter_mut() {
+        let mut sum: u64 = 0;
+        for (i, a) in asked.iter().enumerate() {
             a.judged()?;
-            let number = a.call();
-            sum += read(number, a);
+            sum = sum.wrapping_add(read(a.call(), a));
+            if a.entry.name == entries::REPLY.name {
+                let length = a.word(0) as usize;
+                if a.lent.borrow()[0].bytes()[..length] != *reply(&given.logs()[i]).as_bytes() {
+                    return Err("the two replies differ".into());
+                }
+            }
         }
         for side in [sides[0], sides[1]].into_iter().flatten() {
             if side(&given) != sum {
                 return Err("the two sides do not answer alike".into());
-            }
-        }
-        if let Given::Logs(logs) = &*given {
-            for (log, a) in logs.iter().zip(asked.borrow().iter()).filter(|(_, a)| a.entry.name == entries::REPLY.name) {
-                let length = a.word(0) as usize;
-                if a.lent[0].bytes()[..length] != *reply(log).as_bytes() {
-                    return Err("the two replies differ".into());
-                }
             }
         }
         Ok(())
@@ -213,7 +206,7 @@ pub fn row(name: &str, input: &str, folder: &Folder) -> Result<Row, String> {
         }
         "reply" => {
             let logs = inputs::logs(input, folder, true)?;
-            let ask = |l: &Log| Asked::new(&entries::REPLY, vec![l.bytes.clone(), l.sheet.clone()], vec![], &[oracle::desk::LENT]);
+            let ask = |l: &Log| Asked::new(&entries::REPLY, vec![l.bytes.clone(), l.sheet.clone()], vec![], &[ROOM.load(Ordering::Relaxed)]);
             let asked = logs.iter().map(ask).collect();
             Ok(asking(events(&logs), asked, |_, a| a.word(0), [None, Some(replied), Some(parsed)], Given::Logs(logs)))
         }

@@ -7,7 +7,7 @@ use oracle::doc01::{Book, Marks, Sheet};
 use oracle::judge;
 use oracle::log::Log;
 
-use crate::library::{self, Lent};
+use crate::library::{self, Arguments};
 
 /// The judge's answer where the rooms of the outputs suffice: the refusal's number, the bytes at the start of each output, the answer's bytes. All
 /// other bytes are zero.
@@ -56,7 +56,7 @@ pub struct Entry {
     /// Whether the last input is lent as the first output, and altered in place.
     pub held: bool,
     pub due: fn(&[Bytes], &[u64]) -> Due,
-    pub call: fn(&[Bytes], &[u64], &mut [Lent]) -> u32,
+    pub call: fn(&Arguments) -> u32,
 }
 
 /// The refusal of a question that the judge does not answer.

@@ -1,7 +1,9 @@
 //! The library's entries through its C boundary: slices go as a pointer and a length, an empty one as a null pointer. Outputs are lent as bytes that hold
 //! garbage, with garbage on both sides.
 
-use crate::entries::Bytes;
+use std::ptr::{null, null_mut};
+
+use crate::entries::{Bytes, Entry};
 
 const GARBAGE: u8 = 0xa5;
 const BESIDE: usize = 32;
@@ -46,29 +48,59 @@ impl Lent {
     }
 }
 
-fn read(bytes: &[u8]) -> *const u8 {
-    if bytes.is_empty() { std::ptr::null() } else { bytes.as_ptr() }
+/// The most inputs, numbers and outputs of an entry, its answer among these.
+const INPUTS: usize = 8;
+const NUMBERS: usize = 3;
+const OUTPUTS: usize = 5;
+
+/// The arguments of a call as C takes them: each slice a pointer and a length, null where it is empty. They hold while the slices stand where they are.
+pub struct Arguments {
+    inputs: [(*const u8, usize); INPUTS],
+    numbers: [u64; NUMBERS],
+    outputs: [(*mut u8, usize); OUTPUTS],
+    /// Where the answer, the last output, is.
+    answer: *const u8,
 }
 
-fn written(lent: &mut Lent) -> *mut u8 {
-    if lent.room == 0 { std::ptr::null_mut() } else { lent.bytes[BESIDE..].as_mut_ptr() }
+impl Arguments {
+    /// An entry's, in its order.
+    pub fn new(entry: &Entry, inputs: &[Bytes], numbers: &[u64], outputs: &mut [Lent]) -> Arguments {
+        let due = (entry.inputs.len() - entry.held as usize, entry.numbers.len(), entry.outputs + (entry.answer > 0) as usize);
+        assert_eq!((inputs.len(), numbers.len(), outputs.len()), due, "arguments of {}", entry.name);
+        let mut all = Arguments { inputs: [(null(), 0); INPUTS], numbers: [0; NUMBERS], outputs: [(null_mut(), 0); OUTPUTS], answer: null() };
+        for (to, bytes) in all.inputs.iter_mut().zip(inputs).filter(|(_, bytes)| !bytes.is_empty()) {
+            *to = (bytes.as_ptr(), bytes.len());
+        }
+        all.numbers[..numbers.len()].copy_from_slice(numbers);
+        for (to, lent) in all.outputs.iter_mut().zip(outputs).filter(|(_, lent)| lent.room > 0) {
+            *to = (lent.bytes[BESIDE..].as_mut_ptr(), lent.room);
+        }
+        all.answer = all.outputs[due.2.saturating_sub(1)].0;
+        all
+    }
+
+    /// A word of the answer, from 0.
+    pub fn word(&self, at: usize) -> u64 {
+        // Safe: an answer of the rows that are timed has that word.
+        unsafe { self.answer.cast::<u64>().add(at).read_unaligned() }
+    }
 }
 
 macro_rules! entry {
     ($name:ident ( $($input:ident),* ; $($number:ident : $of:ty),* ; $($output:ident),* )) => {
         // Safe: each pointer is to as many bytes as its length says, which nothing else holds during the call; null where there are none.
-        pub fn $name(inputs: &[Bytes], numbers: &[u64], outputs: &mut [Lent]) -> u32 {
+        pub fn $name(of: &Arguments) -> u32 {
             extern "C" {
                 fn $name($($input: *const u8, _: usize,)* $($number: $of,)* $($output: *mut u8, _: usize),*) -> u32;
             }
-            let [$($input),*] = inputs else { panic!("inputs of {}", stringify!($name)) };
-            let [$($number),*] = *numbers else { panic!("numbers of {}", stringify!($name)) };
-            let [$($output),*] = outputs else { panic!("outputs of {}", stringify!($name)) };
+            let [$($input,)* ..] = of.inputs;
+            let [$($number,)* ..] = of.numbers;
+            let [$($output,)* ..] = of.outputs;
             unsafe {
                 $name(
-                    $(read($input), $input.len(),)*
+                    $($input.0, $input.1,)*
                     $($number as $of,)*
-                    $(written($output), $output.room),*
+                    $($output.0, $output.1),*
                 )
             }
         }
@@ -98,7 +130,7 @@ entry!(desk_f64_cents_checked(; value: u64; answer));
 pub const PLAIN: usize = 64;
 
 /// The entries without slices, all asked with one number; their answers one behind the other, as if lent.
-pub fn plain(_: &[Bytes], numbers: &[u64], outputs: &mut [Lent]) -> u32 {
+pub fn plain(of: &Arguments) -> u32 {
     extern "C" {
         fn desk_f64_bits(bits: u64) -> u64;
         fn desk_is_finite(bits: u64) -> bool;
@@ -109,7 +141,7 @@ pub fn plain(_: &[Bytes], numbers: &[u64], outputs: &mut [Lent]) -> u32 {
         fn desk_sign_extended(ibkr_id: i32) -> u64;
         fn desk_truncated_i32(ibkr_id: i64) -> i32;
     }
-    let n = numbers[0];
+    let n = of.numbers[0];
     // Safe: no pointers.
     let said = unsafe {
         [
@@ -123,8 +155,9 @@ pub fn plain(_: &[Bytes], numbers: &[u64], outputs: &mut [Lent]) -> u32 {
             desk_truncated_i32(n as i64) as u64,
         ]
     };
-    let Lent { bytes, room } = &mut outputs[0];
-    let lent = &mut bytes[BESIDE..BESIDE + *room];
+    let (lent, room) = of.outputs[0];
+    // Safe: the lent bytes; none, where the pointer is null.
+    let lent = if room == 0 { &mut [][..] } else { unsafe { std::slice::from_raw_parts_mut(lent, room) } };
     lent.fill(0);
     if lent.len() < PLAIN {
         return 3;

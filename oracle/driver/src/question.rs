@@ -4,7 +4,7 @@ use std::cell::RefCell;
 use std::ops::Deref;
 
 use crate::entries::{Bytes, Due, Entry, UNJUDGED};
-use crate::library::Lent;
+use crate::library::{Arguments, Lent};
 
 /// Room enough for every output of a case.
 const AMPLE: usize = 1 << 20;
@@ -127,7 +127,7 @@ impl Question {
             lent[0].holding(held);
             inputs = &inputs[..inputs.len() - 1];
         }
-        (self.entry.call)(inputs, &self.numbers, lent)
+        (self.entry.call)(&Arguments::new(self.entry, inputs, &self.numbers, lent))
     }
 
     /// The rooms of the outputs and of the answer: each around the exact one, the others exact; then those that were asked for.

@@ -13,7 +13,7 @@ use rebalancer::{audit, reconcile, recovery};
 
 use super::inputs::{self, Folder, Lists, Log, FLOATS};
 use driver::entries::{self, Bytes, Entry};
-use driver::library::Lent;
+use driver::library::{Arguments, Lent};
 
 /// Each row and its inputs. A number is a count of events, for a comparison of orders, for drift of rows.
 pub const ROWS: &[(&str, &[&str])] = &[
@@ -72,24 +72,17 @@ impl Asked {
         Asked { entry, inputs: inputs.into_iter().map(Bytes::new).collect(), numbers, lent }
     }
 
-    fn call(&self) -> u32 {
-        (self.entry.call)(black_box(&self.inputs), &self.numbers, &mut self.lent.borrow_mut())
+    fn arguments(&self) -> Arguments {
+        Arguments::new(self.entry, &self.inputs, &self.numbers, &mut self.lent.borrow_mut())
     }
 
     fn rooms(&self) -> Vec<usize> {
         self.lent.borrow().iter().map(|l| l.bytes().len()).collect()
     }
 
-    /// A word of the answer, from 0.
-    fn word(&self, at: usize) -> u64 {
-        let lent = self.lent.borrow();
-        let answer = lent[lent.len() - 1].bytes();
-        u64::from_le_bytes(answer[8 * at..8 * at + 8].try_into().expect("eight bytes"))
-    }
-
     /// Every byte as the judge has it, and nothing written beside.
     fn judged(&self) -> Result<(), String> {
-        let number = self.call();
+        let number = (self.entry.call)(&self.arguments());
         let rooms = &self.rooms()[..self.entry.outputs];
         let due = (self.entry.due)(&self.inputs, &self.numbers).within(rooms);
         // Of a refusal that gives no bytes every output is zero.
@@ -119,32 +112,37 @@ fn lend_on(asked: &mut [Asked]) {
 }
 
 /// A row of questions to one entry. `read` gives the number of an answer that the original's side gives too.
-fn asking(size: usize, mut asked: Vec<Asked>, read: fn(u32, &Asked) -> u64, sides: [Option<fn(&Given) -> u64>; 3], given: Given) -> Row {
+fn asking(size: usize, mut asked: Vec<Asked>, read: fn(u32, &Arguments) -> u64, sides: [Option<fn(&Given) -> u64>; 3], given: Given) -> Row {
     if !APART.load(Ordering::Relaxed) {
         lend_on(&mut asked);
     }
-    let asked = Rc::new(asked);
+    let call = asked[0].entry.call;
+    let ready: Rc<[Arguments]> = asked.iter().map(Asked::arguments).collect();
+    let answers = move |ready: &[Arguments]| ready.iter().map(|of| read(call(of), of)).fold(0, u64::wrapping_add);
     let given = Rc::new(given);
+    let asked = Rc::new(asked);
     let library = {
-        let asked = asked.clone();
-        move || asked.iter().map(|a| read(a.call(), a)).fold(0, u64::wrapping_add)
+        let (ready, kept) = (ready.clone(), asked.clone());
+        move || {
+            let _ = &kept;
+            answers(black_box(&ready))
+        }
     };
     let [parsed, whole, parse] = sides.map(|side| {
         let given = given.clone();
         side.map(|side| Box::new(move || side(black_box(&given))) as Side)
     });
     let judged = move || {
-        let mut sum: u64 = 0;
         for (i, a) in asked.iter().enumerate() {
             a.judged()?;
-            sum = sum.wrapping_add(read(a.call(), a));
             if a.entry.name == entries::REPLY.name {
-                let length = a.word(0) as usize;
+                let length = ready[i].word(0) as usize;
                 if a.lent.borrow()[0].bytes()[..length] != *reply(&given.logs()[i]).as_bytes() {
                     return Err("the two replies differ".into());
                 }
             }
         }
+        let sum = answers(&ready);
         for side in [sides[0], sides[1]].into_iter().flatten() {
             if side(&given) != sum {
                 return Err("the two sides do not answer alike".into());

@@ -12,7 +12,7 @@ use oracle::json::{lines, Texts};
 use rebalancer::audit::{self, AuditEvent};
 use rebalancer::diff::CurrentPosition;
 
-/// The random inputs: so many of the generator's, under one seed.
+/// The random inputs: so many of the generator's, where the input's name has no other number, under one seed.
 const RANDOM: usize = 300;
 const SEED: u64 = 1;
 
@@ -133,7 +133,8 @@ pub fn logs(input: &str, folder: &Folder, desk: bool) -> Result<Vec<Log>, String
             let (book, sheet) = (Book::parse(&read("book.bin")?), Sheet::parse(&read("sheet.bin")?));
             Ok(vec![Log::new(folder, 0, book.map_err(|n| format!("refused {n}"))?, &sheet.map_err(|n| format!("refused {n}"))?)?])
         }
-        "random" => random(folder),
+        "random" => random(folder, RANDOM),
+        _ if input.starts_with("random-") => random(folder, input["random-".len()..].parse().map_err(|_| format!("no input: {input}"))?),
         "largest" if desk => {
             let events = (DESK - HEADER - 1_000) / 246;
             Ok(vec![Log::new(folder, 0, padded(intents(events), DESK), &strangers(1_024))?])
@@ -147,17 +148,17 @@ pub fn logs(input: &str, folder: &Folder, desk: bool) -> Result<Vec<Log>, String
 }
 
 /// Logs of the generator's kind `runs` that are laid out as they must be and that the original can be given.
-fn random(folder: &Folder) -> Result<Vec<Log>, String> {
+fn random(folder: &Folder, many: usize) -> Result<Vec<Log>, String> {
     let mut logs = Vec::new();
     for number in 0.. {
+        if logs.len() == many {
+            break;
+        }
         let Some(Case::Log(LogCase { book, sheet, .. })) = case("runs", SEED, number) else { return Err("no runs".into()) };
         if let (Ok(book), Ok(sheet)) = (Book::parse(&book), Sheet::parse(&sheet)) {
             if book.in_domain() {
                 logs.push(Log::new(folder, number as usize, book, &sheet)?);
             }
-        }
-        if logs.len() == RANDOM {
-            break;
         }
     }
     Ok(logs)

@@ -15,9 +15,9 @@ use super::inputs::{self, Folder, Lists, Log, FLOATS};
 use driver::entries::{self, Bytes, Entry};
 use driver::library::{Arguments, Lent};
 
-/// Each row and its inputs. A number is a count of events, for a comparison of orders, for drift of rows.
+/// Each row and its inputs. A number is a count of events, for a comparison of orders, for drift of rows; behind `random` it is a count of logs.
 pub const ROWS: &[(&str, &[&str])] = &[
-    ("validate", &["reference", "random", "largest", "64", "256", "1024", "4096"]),
+    ("validate", &["reference", "random", "random-30", "random-3000", "largest", "64", "256", "1024", "4096"]),
     ("recover", &["reference", "random", "largest", "64", "256", "1024", "4096"]),
     ("recover-16", &["64", "256", "1024", "4096"]),
     ("compare", &["reference", "random", "64", "256", "1024", "4096"]),

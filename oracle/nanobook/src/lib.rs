@@ -35,7 +35,7 @@ impl Symbol {
 
 impl Ord for Symbol {
     fn cmp(&self, other: &Symbol) -> std::cmp::Ordering {
-        self.as_str().as_bytes().cmp(other.as_str().as_bytes())
+        self.bytes[..self.length as usize].cmp(&other.bytes[..other.length as usize])
     }
 }
 

@@ -16,6 +16,9 @@ use rebalancer::diff::CurrentPosition;
 const RANDOM: usize = 300;
 const SEED: u64 = 1;
 
+/// Drift's lists of so many rows stand in so many orders, so that no processor learns the way through one.
+const ARRANGED: usize = 64;
+
 /// The most bytes of each file of the desk.
 const DESK: usize = oracle::desk::LENT;
 
@@ -306,8 +309,12 @@ impl Lists {
 
 /// So many rows of each list, a price for each target. All symbols are shared, or none of those held and those aimed at.
 pub fn lists(rows: usize, shared: bool) -> Result<Vec<Lists>, String> {
-    // An order that is none: multiples of a number without a common factor.
-    let name = |i: usize| doc01::Symbol::of(letters(i * 7_919 % 17_576).as_bytes()).ok_or("no symbol");
+    (0..ARRANGED).map(|order| listed(rows, shared, order)).collect()
+}
+
+/// The symbols in an order that is none: behind one another by a number without a common factor, another in each.
+fn listed(rows: usize, shared: bool, order: usize) -> Result<Lists, String> {
+    let name = |i: usize| doc01::Symbol::of(letters(i * (7_919 + 2 * 13 * 6 * order) % 17_576).as_bytes()).ok_or("no symbol");
     let mut bytes = vec![Vec::new(), Vec::new(), Vec::new()];
     for i in 0..rows {
         let aimed = name(if shared { i } else { rows + i })?;
@@ -315,7 +322,7 @@ pub fn lists(rows: usize, shared: bool) -> Result<Vec<Lists>, String> {
         bytes[1].extend(drift::target_bytes(&[(aimed, i as f64 / 100_000.0)]));
         bytes[2].extend(drift::price_bytes(&[(aimed, 1_000 + i as i64)]));
     }
-    Ok(vec![Lists::new(bytes, 1_000_000_000).ok_or("a list is refused")?])
+    Lists::new(bytes, 1_000_000_000).ok_or_else(|| "a list is refused".into())
 }
 
 /// Random lists of the generator that are answered, the long ones left out.

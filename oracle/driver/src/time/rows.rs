@@ -199,7 +199,8 @@ pub fn row(name: &str, input: &str, folder: &Folder) -> Result<Row, String> {
             let lists = if name == "drift" { inputs::random_lists()? } else { inputs::lists(number()?, name == "drift-shared")? };
             let ask = |l: &Lists| Asked::new(&entries::DRIFT, l.bytes.clone(), vec![l.equity as u64], &[64 * (l.held.len() + l.targets.len())]);
             let asked = lists.iter().map(ask).collect();
-            let size = lists.iter().map(|l| l.held.len().max(l.targets.len()).max(l.prices.len())).sum();
+            let longest = lists.iter().map(|l| l.held.len().max(l.targets.len()).max(l.prices.len()));
+            let size = if name == "drift" { longest.sum() } else { longest.max().unwrap_or(0) };
             Ok(asking(size, asked, |_, a| a.word(0).wrapping_add(a.word(1) >> 16), [Some(drifted), None, None], Given::Lists(lists)))
         }
         "reply" => {

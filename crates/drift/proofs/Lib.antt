@@ -6,6 +6,7 @@ pub mod Opened
 pub mod Targets
 pub mod Bytes64
 pub mod Ordered
+pub mod Halves
 pub mod Inserted
 pub mod Sized
 pub mod Looked

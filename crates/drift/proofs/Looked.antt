@@ -4,7 +4,8 @@ use Prim.Native.Nat.{ℕ, zero, suc, _+_, _*_, _/_, _%_, _≤_, _<_}
 use mathlib.Core.Path.{_≡_, refl, sym, ap, _∙_}
 use mathlib.Core.Bool.{Bool, true, false, cond}
 use mathlib.Core.List.{List, [], _∷_, map}
-use native.Mathlib.Nat.{add-zero}
+use native.Mathlib.Nat.{add-zero, mul-suc, mul-le-mul, le-refl}
+use native.Mathlib.Numerals.{add-one}
 use native.Mathlib.Omega.{arith}
 use lib.Dec.{eqb, ltb}
 use borrow.Author.Tests.{ltb-false}
@@ -22,9 +23,16 @@ use Rattle.records.specs.Record.{tableOk}
 use Rattle.records.proofs.Walk.{rest, rest-next}
 use Rattle.drift.specs.Rows.{rowOf, rowsIn, valued, rowsLayout}
 use Rattle.drift.specs.Symbols.{lastOf, keys, inserted, sortedWith}
-use Rattle.drift.specs.Code.{key, keyFirst, wordsOf, lastBits, run}
+use Rattle.drift.specs.Code.{key, keyFirst, Listed, wordsOf, lastBits, Marked, run}
 use Rattle.drift.proofs.Keys.{key-first}
 use Rattle.drift.proofs.Sized.{Sized, sized, same-by-key}
+
+-- ---- a row of a list that is all there
+pub row-there : (s : List ℕ) (w count i : ℕ) → Listed s w count → i < count → (w * i + w ≤ length s) × (w * i + w ≤ 32768)
+row-there s w count i l h =
+    let next : w * (i + 1) ≡ w * i + w = rw (add-one, mul-suc) in
+    let last : w * (i + 1) ≤ w * count = mul-le-mul (le-refl w) (omega arith) in
+    (omega (arith, l .there), omega (arith, mul-le-mul (l .most) (l .few)))
 
 -- ---- one row more: it takes its place, and says what it says
 module _ (w n : ℕ) (s : List ℕ) (i : ℕ) (h : i < n) where
@@ -37,6 +45,14 @@ module _ (w n : ℕ) (s : List ℕ) (i : ℕ) (h : i < n) where
       → lastBits b x (rest rowOf w n s i) ≡ lastBits (cond (eqb (key (le 8 (drop (w * i) s))) (key x)) (le 8 (drop 16 (drop (w * i) s))) b) x (rest rowOf w n s (i + 1))
   unfolding lastBits
   last-step b x = rw (rest-next rowOf w n s i h)
+
+  -- what the row says is noted: what the rows from the next on, j, say is to be noted still
+  pub noted-step : (ws : List ℕ) (m x bits : ℕ) (at after : List ℕ) (j : ℕ) → j ≡ i + 1 → x ≡ le 8 (drop (w * i) s) → bits ≡ le 8 (drop 16 (drop (w * i) s))
+      → Marked ws m x bits at after → (k : ℕ) → k < m
+      → lastBits (getD after k 0) (getD ws k 0) (rest rowOf w n s j) ≡ lastBits (getD at k 0) (getD ws k 0) (rest rowOf w n s i)
+  noted-step ws m x bits at after j g e f t k l =
+      let said : getD after k 0 ≡ cond (eqb (key (le 8 (drop (w * i) s))) (key (getD ws k 0))) (le 8 (drop 16 (drop (w * i) s))) (getD at k 0) = t .each k l ∙ rw (e, f) in
+      rw (g, said) (sym (last-step (getD at k 0) (getD ws k 0)))
 
 -- ---- the rows of a sound list have symbols whose fields are right
 rows-sized : (w n : ℕ) (s : List ℕ) → Bytes s → every wideFieldOk w n s ≡ true → Each (λ (r : Symbol × ℕ). Sized (r .0)) (records rowOf w n s)

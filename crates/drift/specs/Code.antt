@@ -61,6 +61,12 @@ pub data Rising {A : Type 0} (f : A → ℕ) : List A → Type 0 where
   none : Rising f []
   more : {x : A} {xs : List A} → Over f (f x) xs → Rising f xs → Rising f (x ∷ xs)
 
+-- where a search for x among the first n stands, by the keys without their last bit: what lies before `low` is before x, and what lies `size` behind it is not
+pub record Within (ws : List ℕ) (n x low size : ℕ) : Type 0 where
+  pub most : low + size ≤ n
+  pub below : 0 < low → key (getD ws (low - 1) 0) / 2 < key x / 2
+  pub above : low + size < n → key x / 2 ≤ key (getD ws (low + size) 0) / 2
+
 -- the place of x among the first n
 pub record Place (ws : List ℕ) (n x p : ℕ) : Type 0 where
   pub most : p ≤ n
@@ -70,6 +76,13 @@ pub record Place (ws : List ℕ) (n x p : ℕ) : Type 0 where
 -- whether it stands there
 abbrev pub found : List ℕ → ℕ → ℕ → ℕ → Bool
 found ws n p x = ltb p n && eqb (key (getD ws p 0)) (key x)
+
+-- a list of rows, all of them there
+pub record Listed (s : List ℕ) (w count : ℕ) : Type 0 where
+  pub least : 24 ≤ w
+  pub most : w ≤ 32
+  pub few : count ≤ 1024
+  pub there : w * count ≤ length s
 
 unfoldable pub wordsOf : List (Symbol × ℕ) → List ℕ
 wordsOf [] = []

@@ -1,13 +1,14 @@
 // Symbols as numbers in order, in an array whose first n elements are taken, and what was last said of each in an array beside it.
 ghost use mathlib.Core.Path.{_≡_};
-ghost use Prim.Native.Nat.{_+_, _-_, _≤_, _<_, suc};
+ghost use Prim.Native.Nat.{_+_, _-_, _*_, _/_, _≤_, _<_, suc};
 ghost use mathlib.Core.List.{_++_};
 ghost use lib.ListN.{length, take, drop};
+ghost use Rattle.wire.specs.Le.{le};
 ghost use Rattle.wire.specs.Table.{records};
 ghost use Rattle.drift.specs.Rows.{rowOf, heldIn, targetsIn, pricesIn};
 ghost use Rattle.drift.specs.Symbols.{inserted};
 ghost use Rattle.drift.specs.Report.{linesOf};
-ghost use Rattle.drift.specs.Code.{swapped, key, keyFirst, Rising, Place, found, Gathered, Marked, Noted, lenOf, linesAt, SoundLists, Blank, Filled};
+ghost use Rattle.drift.specs.Code.{swapped, key, keyFirst, Rising, Within, Place, found, Listed, Gathered, Marked, Noted, lenOf, linesAt, SoundLists, Blank, Filled};
 
 // The four low bytes of x the other way round.
 fn four(x: u64) -> u64
@@ -31,26 +32,73 @@ pub fn len_of(x: u64) -> u64
     (71 - u64::leading_zeros(x) as u64) / 8
 }
 
-// Where x stands, or would stand, among the first n: by halves, by the keys without their last bit, which one test behind the loop reads. How often it
-// halves depends on n only, and what it reads is reckoned with and not branched on.
+// One test of a search for x among the first n: by the keys without their last bit, the place lies from `low` on, at most `size` behind it; of the two halves
+// one is left. What it reads is reckoned with and not branched on.
+fn nearer(words: &[u64], n: usize, x: u64, low: usize, size: usize) -> usize
+    requires { ⌜ n ≤ length (now words) ⌝ ∗ ⌜ Rising key (take n (now words)) ⌝ ∗ ⌜ 0 < size ⌝ ∗ ⌜ Within (now words) n x low size ⌝ }
+    ensures { λ r. ⌜ Within (now (words .entry)) n x r (size / 2) ⌝ }
+{
+    let half = size - size / 2;
+    let mark = 0x7fff_ffff_ffff_ffff + key_of(x) / 2;
+    let below = (mark - key_of(words[low + half - 1]) / 2) / 0x8000_0000_0000_0000;
+    low + half * (below as usize)
+}
+
+// The place, by one test of the last bit.
+fn settled(words: &[u64], n: usize, x: u64, low: usize) -> usize
+    requires { ⌜ n ≤ length (now words) ⌝ ∗ ⌜ Rising key (take n (now words)) ⌝ ∗ ⌜ Within (now words) n x low 0 ⌝ }
+    ensures { λ r. ⌜ Place (now (words .entry)) n x r ⌝ }
+{
+    if low < n {
+        low + ((key_of(words[low]) < key_of(x)) as usize)
+    } else {
+        low
+    }
+}
+
+// Where x stands, or would stand, among the first n. How often it halves depends on n only.
 fn place(words: &[u64], n: usize, x: u64) -> usize
     requires { ⌜ n ≤ length (now words) ⌝ ∗ ⌜ Rising key (take n (now words)) ⌝ }
     ensures { λ r. ⌜ Place (now (words .entry)) n x r ⌝ }
 {
-    let k = key_of(x);
-    let mark = 0x7fff_ffff_ffff_ffff + k / 2;
     let mut low = 0;
     let mut size = n;
     while 0 < size {
-        let half = size - size / 2;
-        let below = (mark - key_of(words[low + half - 1]) / 2) / 0x8000_0000_0000_0000;
-        low += half * (below as usize);
+        low = nearer(words, n, x, low, size);
         size = size / 2;
     }
-    if low < n {
-        low + ((key_of(words[low]) < k) as usize)
-    } else {
-        low
+    settled(words, n, x, low)
+}
+
+pub struct Places {
+    pub a: usize,
+    pub b: usize,
+    pub c: usize,
+    pub d: usize,
+}
+
+// The places of four, searched side by side: no search waits for what another reads.
+fn four_places(words: &[u64], n: usize, x: u64, y: u64, z: u64, w: u64) -> Places
+    requires { ⌜ n ≤ length (now words) ⌝ ∗ ⌜ Rising key (take n (now words)) ⌝ }
+    ensures { λ r. ⌜ Place (now (words .entry)) n x (r .a) × Place (now (words .entry)) n y (r .b) × Place (now (words .entry)) n z (r .c) × Place (now (words .entry)) n w (r .d) ⌝ }
+{
+    let mut a = 0;
+    let mut b = 0;
+    let mut c = 0;
+    let mut d = 0;
+    let mut size = n;
+    while 0 < size {
+        a = nearer(words, n, x, a, size);
+        b = nearer(words, n, y, b, size);
+        c = nearer(words, n, z, c, size);
+        d = nearer(words, n, w, d, size);
+        size = size / 2;
+    }
+    Places {
+        a: settled(words, n, x, a),
+        b: settled(words, n, y, b),
+        c: settled(words, n, z, c),
+        d: settled(words, n, w, d),
     }
 }
 
@@ -100,41 +148,69 @@ fn insert(words: &mut [u64], n: usize, x: u64) -> usize
     n + 1
 }
 
+// The number of the symbol in row i.
+fn word_in(list: &[u8], width: usize, count: usize, i: usize) -> u64
+    requires { ⌜ Listed (now list) width count ⌝ ∗ ⌜ i < count ⌝ }
+    ensures { λ r. ⌜ r ≡ le 8 (drop (width * i) (now (list .entry))) ⌝ }
+{
+    wire::whole_u64_at(list, width * i)
+}
+
+// What row i says of it: the eight bytes at 16.
+fn bits_in(list: &[u8], width: usize, count: usize, i: usize) -> u64
+    requires { ⌜ Listed (now list) width count ⌝ ∗ ⌜ i < count ⌝ }
+    ensures { λ r. ⌜ r ≡ le 8 (drop 16 (drop (width * i) (now (list .entry)))) ⌝ }
+{
+    wire::whole_u64_at(list, width * i + 16)
+}
+
 // The symbol of each row put in its place.
 fn gather(list: &[u8], width: usize, count: usize, words: &mut [u64], n: usize) -> usize
-    requires { ⌜ width ≤ 32 ⌝ ∗ ⌜ count ≤ 1024 ⌝ ∗ ⌜ n + count ≤ length (now words) ⌝ ∗ ⌜ Rising key (take n (now words)) ⌝ }
+    requires { ⌜ Listed (now list) width count ⌝ ∗ ⌜ n + count ≤ length (now words) ⌝ ∗ ⌜ Rising key (take n (now words)) ⌝ }
     ensures { λ r. ⌜ Gathered (now (words .entry)) n (records rowOf width count (now (list .entry))) (now (words .exit)) r ⌝ }
 {
     let mut taken = n;
     let mut i = 0;
     while i < count {
-        taken = insert(words, taken, wire::u64_at(list, width * i));
+        taken = insert(words, taken, word_in(list, width, count, i));
         i += 1;
     }
     taken
 }
 
-// What a row says of its symbol, where that is among the first n.
-fn note(words: &[u64], n: usize, x: u64, bits: u64, values: &mut [u64])
-    requires { ⌜ n ≤ length (now words) ⌝ ∗ ⌜ n ≤ length (now values) ⌝ ∗ ⌜ Rising key (take n (now words)) ⌝ }
+// What is said of x, whose place is p, where it is among the first n.
+fn note(words: &[u64], n: usize, p: usize, x: u64, bits: u64, values: &mut [u64])
+    requires { ⌜ n ≤ length (now words) ⌝ ∗ ⌜ n ≤ length (now values) ⌝ ∗ ⌜ Rising key (take n (now words)) ⌝ ∗ ⌜ Place (now words) n x p ⌝ }
     ensures { λ _. ⌜ Marked (now (words .entry)) n x bits (now (values .entry)) (now (values .exit)) ⌝ }
 {
-    let p = place(words, n, x);
     if has(words, n, p, x) {
         values[p] = bits;
     }
 }
 
-// What is last said of each of the first n symbols: the eight bytes at 16 of its last row.
+// What is last said of each of the first n symbols, four rows at a time.
 fn last_values(list: &[u8], width: usize, count: usize, words: &[u64], n: usize, values: &mut [u64])
-    requires { ⌜ width ≤ 32 ⌝ ∗ ⌜ count ≤ 1024 ⌝ ∗ ⌜ n ≤ length (now words) ⌝ ∗ ⌜ n ≤ length (now values) ⌝ ∗ ⌜ Rising key (take n (now words)) ⌝ }
+    requires { ⌜ Listed (now list) width count ⌝ ∗ ⌜ n ≤ length (now words) ⌝ ∗ ⌜ n ≤ length (now values) ⌝ ∗ ⌜ Rising key (take n (now words)) ⌝ }
     ensures { λ _. ⌜ Noted (now (words .entry)) n (records rowOf width count (now (list .entry))) (now (values .entry)) (now (values .exit)) ⌝ }
 {
     let mut i = 0;
     while i < count {
-        let row = wire::from(list, width * i);
-        note(words, n, wire::u64_of(row), wire::u64_at(row, 16), values);
-        i += 1;
+        if i + 3 < count {
+            let x = word_in(list, width, count, i);
+            let y = word_in(list, width, count, i + 1);
+            let z = word_in(list, width, count, i + 2);
+            let w = word_in(list, width, count, i + 3);
+            let at = four_places(words, n, x, y, z, w);
+            note(words, n, at.a, x, bits_in(list, width, count, i), values);
+            note(words, n, at.b, y, bits_in(list, width, count, i + 1), values);
+            note(words, n, at.c, z, bits_in(list, width, count, i + 2), values);
+            note(words, n, at.d, w, bits_in(list, width, count, i + 3), values);
+            i += 4;
+        } else {
+            let x = word_in(list, width, count, i);
+            note(words, n, place(words, n, x), x, bits_in(list, width, count, i), values);
+            i += 1;
+        }
     }
 }
 

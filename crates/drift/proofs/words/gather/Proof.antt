@@ -5,7 +5,6 @@ use borrow.Author.Needs.{needs}
 use Prim.Native.Nat.{ℕ, _+_, _*_, _-_, _≤_}
 use mathlib.Core.Path.{_≡_, refl, sym, ap, subst, _∙_}
 use mathlib.Core.List.{List}
-use native.Mathlib.Nat.{mul-le-mul}
 use native.Mathlib.Omega.{arith}
 use denote.Ref.{now}
 use lib.ListN.{length, take, drop}
@@ -30,17 +29,10 @@ abbrev μ-loop : tie.MeasureT-loop
 loop-holds : tie.Need-loop-holds Inv-loop μ-loop
 loop-holds c =
     let a = c .before .before .args in
-    (omega arith, omega arith, refl, c .before .before .pre .1 .1 .1, rw (← rest-all rowOf (a .width) (a .count) (now (a .list))))
+    (omega arith, omega arith, refl, c .before .before .pre .1 .1, rw (← rest-all rowOf (a .width) (a .count) (now (a .list))))
 
-mul-u64-at : tie.Need-mul-u64-at Inv-loop μ-loop
-mul-u64-at c =
-    let a = c .before .before .before .before .before .args in
-    let l : c .before .before .loop .i ≤ 1024 = omega arith in
-    let w : a .width ≤ 32 = omega arith in
-    omega (arith, mul-le-mul w l)
-
-u64-at-requires : tie.Need-u64-at-requires Inv-loop μ-loop
-u64-at-requires c κs = search needs
+word-in-requires : tie.Need-word-in-requires Inv-loop μ-loop
+word-in-requires c κs = (c .before .before .before .before .before .pre .0, c .before .loop-test .taken)
 
 insert-requires : tie.Need-insert-requires Inv-loop μ-loop
 insert-requires c κs = (omega (arith, c .before .before .before .loop .inv .1, c .before .before .before .loop .inv .2), c .before .before .before .loop .inv .3)
@@ -57,7 +49,7 @@ loop-again c =
     let l = c .before .before .before .before .before .before .loop in
     let s = now (a .list) in
     let x = le 8 (drop (a .width * l .i) s) in
-    let e : take (c .before .before .insert .result) (c .before .before .insert .last .0) ≡ inserted keyFirst x (take (l .taken) (l .words)) = c .before .before .insert .ensures .1 ∙ ap (λ (y : ℕ). inserted keyFirst y (take (l .taken) (l .words))) (c .before .before .before .u64-at .ensures) in (
+    let e : take (c .before .before .insert .result) (c .before .before .insert .last .0) ≡ inserted keyFirst x (take (l .taken) (l .words)) = c .before .before .insert .ensures .1 ∙ ap (λ (y : ℕ). inserted keyFirst y (take (l .taken) (l .words))) (c .before .before .before .word-in .ensures) in (
       omega arith,
       omega (arith, c .before .before .insert .ensures .0, l .inv .1),
       c .before .before .insert .kept .0 ∙ l .inv .2,
@@ -87,8 +79,7 @@ gather-spec =
     Inv-loop
     μ-loop
     loop-holds
-    mul-u64-at
-    u64-at-requires
+    word-in-requires
     insert-requires
     add-i
     loop-less

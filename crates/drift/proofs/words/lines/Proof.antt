@@ -3,6 +3,7 @@ use borrow.Author.Needs.{needs}
 use Prim.Native.Nat.{ℕ, _+_, _/_, _≤_}
 use mathlib.Core.Path.{_≡_, ap, subst, _∙_}
 use mathlib.Core.List.{List}
+use native.Mathlib.Nat.{mul-comm, div-mul-le-self}
 use native.Mathlib.Omega.{arith}
 use denote.Ref.{now}
 use lib.ListN.{length, replicate, length-replicate}
@@ -11,7 +12,7 @@ use Rattle.symbol.specs.declared.Symbol.{Symbol}
 use Rattle.symbol.proofs.Text.{bytes-of}
 use Rattle.drift.specs.Rows.{rowOf, rowsIn}
 use Rattle.drift.specs.Symbols.{sortedWith}
-use Rattle.drift.specs.Code.{keyFirst, wordsOf, Noted}
+use Rattle.drift.specs.Code.{keyFirst, Listed, wordsOf, Noted}
 use Rattle.drift.specs.Code as Code
 use Rattle.drift.proofs.Looked.{sound-rows}
 use Rattle.drift.proofs.Sized.{Sized}
@@ -41,6 +42,10 @@ price-rows : (s : tie.After-slice-known4)
 price-rows s =
     let q = now (s .before .before .before .before .before .before .before .args .prices) in
     sound-rows 24 q (bytes-of q (s .before .before .before .before .shared-slice-known3 .given)) (s .before .before .before .before .before .before .before .pre .0 .priced)
+
+-- they are all there
+listed : (w : ℕ) (d : List ℕ) → 24 ≤ w → w ≤ 32 → length d / w ≤ 1024 → Listed d w (length d / w)
+listed w d h m f = record { least = h; most = m; few = f; there = rw (mul-comm w (length d / w)) (div-mul-le-self (length d) w) }
 
 -- how many are taken behind the first list, and behind both
 some-most : (g : tie.After-gather) → g .gather .result ≤ length (now (g .before .before .before .before .before .before .before .before .before .args .positions)) / 32
@@ -74,31 +79,33 @@ gather-requires : tie.Need-gather-requires
 gather-requires c κs =
     let s = c .before in
     let b = s .before .before .before .before .before .before .before .pre .1 in
-    (omega arith, (held-rows s .0, (omega (arith, b .room), Code.Rising.none)))
+    let p = now (s .before .before .before .before .before .before .before .args .positions) in
+    (listed 32 p (omega arith) (omega arith) (held-rows s .0), (omega (arith, b .room), Code.Rising.none))
 
 gather-requires-2 : tie.Need-gather-requires-2
 gather-requires-2 c κs =
     let g = c .before .before .before in
     let b = g .before .before .before .before .before .before .before .before .before .pre .1 in
-    (omega arith, (target-rows (g .before .before) .0, (omega (arith, some-most g, b .room, g .gather .kept .1 .1 .1 .0), g .gather .ensures .rising)))
+    let t = now (g .before .before .before .before .before .before .before .before .before .args .targets) in
+    (listed 24 t (omega arith) (omega arith) (target-rows (g .before .before) .0), (omega (arith, some-most g, b .room, g .gather .kept .1 .1 .1 .0), g .gather .ensures .rising))
 
 last-values-requires : tie.Need-last-values-requires
 last-values-requires c κs =
     let k = c .before .before .before .before in
     let s = k .before .before .before .before .before .before .before .before .before .before .before .before .before in
-    (omega arith, (held-rows (k .before .before .before .before .before .before) .0, (omega (arith, all-room k, all-size k), (value-room k (now (s .args .quantities)) (s .pre .1 .quantities), k .gather2 .ensures .rising))))
+    (listed 32 (now (s .args .positions)) (omega arith) (omega arith) (held-rows (k .before .before .before .before .before .before) .0), (omega (arith, all-room k, all-size k), (value-room k (now (s .args .quantities)) (s .pre .1 .quantities), k .gather2 .ensures .rising)))
 
 last-values-requires-2 : tie.Need-last-values-requires-2
 last-values-requires-2 c κs =
     let k = c .before .before .before .before .before .before .before .before .before in
     let s = k .before .before .before .before .before .before .before .before .before .before .before .before .before in
-    (omega arith, (target-rows (k .before .before .before .before .before .before) .0, (omega (arith, all-room k, all-size k), (value-room k (now (s .args .weights)) (s .pre .1 .weights), k .gather2 .ensures .rising))))
+    (listed 24 (now (s .args .targets)) (omega arith) (omega arith) (target-rows (k .before .before .before .before .before .before) .0), (omega (arith, all-room k, all-size k), (value-room k (now (s .args .weights)) (s .pre .1 .weights), k .gather2 .ensures .rising)))
 
 last-values-requires-3 : tie.Need-last-values-requires-3
 last-values-requires-3 c κs =
     let k = c .before .before .before .before .before .before .before .before .before .before .before .before .before .before in
     let s = k .before .before .before .before .before .before .before .before .before .before .before .before .before in
-    (omega arith, (price-rows (k .before .before .before .before .before .before) .0, (omega (arith, all-room k, all-size k), (value-room k (now (s .args .costs)) (s .pre .1 .costs), k .gather2 .ensures .rising))))
+    (listed 24 (now (s .args .prices)) (omega arith) (omega arith) (price-rows (k .before .before .before .before .before .before) .0), (omega (arith, all-room k, all-size k), (value-room k (now (s .args .costs)) (s .pre .1 .costs), k .gather2 .ensures .rising)))
 
 same-length : tie.Need-same-length
 same-length c = search needs

@@ -12,9 +12,6 @@ use Rattle.symbol.proofs.Text.{and-left}
 use Rattle.drift.specs.Code.{key}
 use Rattle.drift.proofs.Inserted.{note-found, note-absent}
 
-place-requires : tie.Need-place-requires
-place-requires c κs = search needs
-
 has-requires : tie.Need-has-requires
 has-requires c κs = search needs
 
@@ -23,9 +20,8 @@ mul-values c = search needs
 
 slice-write-values : tie.Need-slice-write-values
 slice-write-values c =
-    let a = c .before .before .before .before .before .args in
-    let p = c .before .before .place .result in
-    let l = ltb-true p (a .n) (and-left (ltb p (a .n)) (eqb (key (getD (now (a .words)) p 0)) (key (a .x))) (sym (c .before .has .ensures) ∙ c .if1 .taken)) in
+    let a = c .before .before .before .before .args in
+    let l = ltb-true (a .p) (a .n) (and-left (ltb (a .p) (a .n)) (eqb (key (getD (now (a .words)) (a .p) 0)) (key (a .x))) (sym (c .before .has .ensures) ∙ c .if1 .taken)) in
     omega arith
 
 same-length : tie.Need-same-length
@@ -33,22 +29,16 @@ same-length c = search needs
 
 returns : tie.Need-returns
 returns c =
-    let a = c .before .before .before .before .before .args in
-    record { each = note-found (now (a .words)) (a .n) (a .x) (c .before .before .place .result) (c .before .before .before .before .before .pre .1 .1) (omega arith) (c .before .before .place .ensures) (a .bits) (now (a .values)) (omega arith) (sym (c .before .has .ensures) ∙ c .if1 .taken) }
+    let s = c .before .before .before .before in
+    let a = s .args in
+    record { each = note-found (now (a .words)) (a .n) (a .x) (a .p) (s .pre .1 .1 .0) (s .pre .0) (s .pre .1 .1 .1) (a .bits) (now (a .values)) (s .pre .1 .0) (sym (c .before .has .ensures) ∙ c .if1 .taken) }
 
 returns-2 : tie.Need-returns-2
 returns-2 c =
-    let a = c .before .before .before .before .before .args in
-    record { each = note-absent (now (a .words)) (a .n) (a .x) (c .before .before .place .result) (c .before .before .before .before .before .pre .1 .1) (omega arith) (c .before .before .place .ensures) (a .bits) (now (a .values)) (sym (c .before .has .ensures) ∙ c .if1 .left) }
+    let s = c .before .before .before .before in
+    let a = s .args in
+    record { each = note-absent (now (a .words)) (a .n) (a .x) (a .p) (s .pre .1 .1 .0) (s .pre .0) (s .pre .1 .1 .1) (a .bits) (now (a .values)) (sym (c .before .has .ensures) ∙ c .if1 .left) }
 
 pub note-spec : {M : Type 1} → statement M
 note-spec =
-    tie.close
-    (tie.spec
-    place-requires
-    has-requires
-    mul-values
-    slice-write-values
-    same-length
-    returns
-    returns-2)
+    tie.close (tie.spec has-requires mul-values slice-write-values same-length returns returns-2)

@@ -1,0 +1,23 @@
+-- `words::word_in`: the row is there.
+use borrow.Author.Needs.{needs}
+use Rattle.drift.proofs.words.word_in.Statement.{statement}
+use Rattle.drift.proofs.words.word_in.Tie as tie
+use native.Mathlib.Omega.{arith}
+use denote.Ref.{now}
+use Rattle.drift.proofs.Looked.{row-there}
+
+mul-whole-u64-at : tie.Need-mul-whole-u64-at
+mul-whole-u64-at c =
+    let a = c .before .args in
+    record { fits = omega (arith, row-there (now (a .list)) (a .width) (a .count) (a .i) (c .before .pre .0) (c .before .pre .1) .1) }
+
+whole-u64-at-requires : tie.Need-whole-u64-at-requires
+whole-u64-at-requires c κs =
+    let a = c .before .args in
+    omega (arith, row-there (now (a .list)) (a .width) (a .count) (a .i) (c .before .pre .0) (c .before .pre .1) .0, c .before .pre .0 .least)
+
+returns : tie.Need-returns
+returns c = search needs
+
+pub word-in-spec : {M : Type 1} → statement M
+word-in-spec = tie.close (tie.spec mul-whole-u64-at whole-u64-at-requires returns)

@@ -31,9 +31,9 @@ drop-take (suc p) (suc n) [] = sym (take-nil (suc n - suc p))
 drop-take (suc p) (suc n) (x ∷ l) = drop-take p n l ∙ rw (suc-sub-suc n p)
 
 -- what lies before p is before x, and what lies from p on is not
-record Between (t : List ℕ) (x p : ℕ) : Type 0 where
-  low : (i : ℕ) → i < p → key (getD t i 0) < key x
-  high : (i : ℕ) → p ≤ i → i < length t → key x ≤ key (getD t i 0)
+pub record Between (t : List ℕ) (x p : ℕ) : Type 0 where
+  pub low : (i : ℕ) → i < p → key (getD t i 0) < key x
+  pub high : (i : ℕ) → p ≤ i → i < length t → key x ≤ key (getD t i 0)
 
 between : (t : List ℕ) (x p : ℕ) → Rising key t → p ≤ length t → (0 < p → key (getD t (p - 1) 0) < key x) → (p < length t → key x ≤ key (getD t p 0)) → Between t x p
 between t x p r h b a = record { low = λ i l. low i l (ltb i (p - 1)) refl; high = λ i l m. high i l m (ltb p i) refl }
@@ -58,7 +58,7 @@ between t x p r h b a = record { low = λ i l. low i l (ltb i (p - 1)) refl; hig
         let q : p ≡ i = omega arith in
         subst (λ (j : ℕ). key x ≤ key (getD t j 0)) q (a (omega arith))
 
-shifted : {z x p : ℕ} {zs : List ℕ} → Between (z ∷ zs) x (suc p) → Between zs x p
+pub shifted : {z x p : ℕ} {zs : List ℕ} → Between (z ∷ zs) x (suc p) → Between zs x p
 shifted b = record { low = λ i l. b .low (suc i) (omega arith); high = λ i l m. b .high (suc i) (omega arith) (omega arith) }
 
 new-in : (t : List ℕ) (x p : ℕ) → Between t x p → p ≤ length t → (p < length t → key (getD t p 0) ≡ key x → ⊥)
@@ -91,7 +91,7 @@ module _ (ws : List ℕ) (n x p : ℕ) (r : Rising key (take n ws)) (h : n ≤ l
   here : (i : ℕ) → i < n → getD (take n ws) i 0 ≡ getD ws i 0
   here i l = getD-take n ws i 0 l
 
-  sides : Between (take n ws) x p
+  pub sides : Between (take n ws) x p
   sides =
       let m = q .most in
       between (take n ws) x p r (rw size m)

@@ -36,12 +36,17 @@ row-there s w count i l h =
 
 -- ---- one row more: it takes its place, and says what it says
 module _ (w n : ℕ) (s : List ℕ) (i : ℕ) (h : i < n) where
-  pub sorted-step : (zs : List ℕ)
+  sorted-step : (zs : List ℕ)
       → sortedWith keyFirst zs (wordsOf (rest rowOf w n s i)) ≡ sortedWith keyFirst (inserted keyFirst (le 8 (drop (w * i) s)) zs) (wordsOf (rest rowOf w n s (i + 1)))
   unfolding sortedWith wordsOf
   sorted-step zs = rw (rest-next rowOf w n s i h)
 
-  pub last-step : (b x : ℕ)
+  -- behind it the symbols of the rows from the next on, j, are to be put in place still
+  pub gathered-step : (x : ℕ) (zs after : List ℕ) (j : ℕ) → j ≡ i + 1 → x ≡ le 8 (drop (w * i) s) → after ≡ inserted keyFirst x zs
+      → sortedWith keyFirst after (wordsOf (rest rowOf w n s j)) ≡ sortedWith keyFirst zs (wordsOf (rest rowOf w n s i))
+  gathered-step x zs after j g e f = rw (g, f, e) (sym (sorted-step zs))
+
+  last-step : (b x : ℕ)
       → lastBits b x (rest rowOf w n s i) ≡ lastBits (cond (eqb (key (le 8 (drop (w * i) s))) (key x)) (le 8 (drop 16 (drop (w * i) s))) b) x (rest rowOf w n s (i + 1))
   unfolding lastBits
   last-step b x = rw (rest-next rowOf w n s i h)

@@ -19,7 +19,7 @@ module _ {A : Type 0} (f : A → ℕ) where
   over-less h Code.Over.none = Code.Over.none
   over-less {m} h (Code.Over.more {x} l o) = let k : m < f x = omega arith in Code.Over.more k (over-less h o)
 
-  over-at : {m : ℕ} {xs : List A} → Over f m xs → (i : ℕ) (d : A) → i < length xs → m < f (getD xs i d)
+  pub over-at : {m : ℕ} {xs : List A} → Over f m xs → (i : ℕ) (d : A) → i < length xs → m < f (getD xs i d)
   over-at Code.Over.none i d h = absurd (not-suc-le-zero h)
   over-at (Code.Over.more l o) zero d h = l
   over-at (Code.Over.more l o) (suc i) d h = over-at o i d (le-of-suc-le-suc h)

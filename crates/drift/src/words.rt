@@ -2,7 +2,9 @@
 ghost use mathlib.Core.Path.{_≡_};
 ghost use Prim.Native.Nat.{_+_, _-_, _*_, _/_, _≤_, _<_, suc};
 ghost use mathlib.Core.List.{_++_};
+ghost use lib.Dec.{ltb};
 ghost use lib.ListN.{length, take, drop};
+ghost use mir.Val.{boolByte};
 ghost use Rattle.wire.specs.Le.{le};
 ghost use Rattle.wire.specs.Table.{records};
 ghost use Rattle.drift.specs.Rows.{rowOf, heldIn, targetsIn, pricesIn};
@@ -70,6 +72,30 @@ fn place(words: &[u64], n: usize, x: u64) -> usize
     settled(words, n, x, low)
 }
 
+pub struct Pair {
+    pub a: usize,
+    pub b: usize,
+}
+
+// The places of two, searched side by side: neither search waits for what the other reads.
+fn two_places(words: &[u64], n: usize, x: u64, y: u64) -> Pair
+    requires { ⌜ n ≤ length (now words) ⌝ ∗ ⌜ Rising key (take n (now words)) ⌝ }
+    ensures { λ r. ⌜ Place (now (words .entry)) n x (r .a) × Place (now (words .entry)) n y (r .b) ⌝ }
+{
+    let mut a = 0;
+    let mut b = 0;
+    let mut size = n;
+    while 0 < size {
+        a = nearer(words, n, x, a, size);
+        b = nearer(words, n, y, b, size);
+        size = size / 2;
+    }
+    Pair {
+        a: settled(words, n, x, a),
+        b: settled(words, n, y, b),
+    }
+}
+
 pub struct Places {
     pub a: usize,
     pub b: usize,
@@ -77,7 +103,7 @@ pub struct Places {
     pub d: usize,
 }
 
-// The places of four, searched side by side: no search waits for what another reads.
+// The places of four, so too.
 fn four_places(words: &[u64], n: usize, x: u64, y: u64, z: u64, w: u64) -> Places
     requires { ⌜ n ≤ length (now words) ⌝ ∗ ⌜ Rising key (take n (now words)) ⌝ }
     ensures { λ r. ⌜ Place (now (words .entry)) n x (r .a) × Place (now (words .entry)) n y (r .b) × Place (now (words .entry)) n z (r .c) × Place (now (words .entry)) n w (r .d) ⌝ }
@@ -134,18 +160,25 @@ fn open(words: &mut [u64], p: usize, n: usize)
     move_up(&mut words[p..], n - p);
 }
 
-// x put in its place among the first n; the answer is how many are taken then.
-fn insert(words: &mut [u64], n: usize, x: u64) -> usize
-    requires { ⌜ n < length (now words) ⌝ ∗ ⌜ Rising key (take n (now words)) ⌝ }
-    ensures { λ r. ⌜ (r ≤ n + 1) × (take r (now (words .exit)) ≡ inserted keyFirst x (take n (now (words .entry)))) ⌝ }
+// x put in its place p among the first n; the answer is how many are taken then.
+fn insert(words: &mut [u64], n: usize, p: usize, x: u64) -> usize
+    requires { ⌜ n < length (now words) ⌝ ∗ ⌜ Rising key (take n (now words)) ⌝ ∗ ⌜ Place (now words) n x p ⌝ }
+    ensures { λ r. ⌜ (n ≤ r) × (r ≤ n + 1) × (take r (now (words .exit)) ≡ inserted keyFirst x (take n (now (words .entry)))) ⌝ }
 {
-    let p = place(words, n, x);
     if has(words, n, p, x) {
         return n;
     }
     open(words, p, n);
     words[p] = x;
     n + 1
+}
+
+// The place of y, which is q among n, once x has been put in and m are taken.
+fn moved(q: usize, n: usize, m: usize, x: u64, y: u64) -> usize
+    requires { ⌜ q ≤ n ⌝ ∗ ⌜ n ≤ m ⌝ ∗ ⌜ m ≤ n + 1 ⌝ }
+    ensures { λ r. ⌜ r ≡ q + (m - n) * boolByte (ltb (key x) (key y)) ⌝ }
+{
+    q + (m - n) * ((key_of(x) < key_of(y)) as usize)
 }
 
 // The number of the symbol in row i.
@@ -164,7 +197,7 @@ fn bits_in(list: &[u8], width: usize, count: usize, i: usize) -> u64
     wire::whole_u64_at(list, width * i + 16)
 }
 
-// The symbol of each row put in its place.
+// The symbol of each row put in its place, two rows at a time.
 fn gather(list: &[u8], width: usize, count: usize, words: &mut [u64], n: usize) -> usize
     requires { ⌜ Listed (now list) width count ⌝ ∗ ⌜ n + count ≤ length (now words) ⌝ ∗ ⌜ Rising key (take n (now words)) ⌝ }
     ensures { λ r. ⌜ Gathered (now (words .entry)) n (records rowOf width count (now (list .entry))) (now (words .exit)) r ⌝ }
@@ -172,8 +205,18 @@ fn gather(list: &[u8], width: usize, count: usize, words: &mut [u64], n: usize) 
     let mut taken = n;
     let mut i = 0;
     while i < count {
-        taken = insert(words, taken, word_in(list, width, count, i));
-        i += 1;
+        if i + 1 < count {
+            let x = word_in(list, width, count, i);
+            let y = word_in(list, width, count, i + 1);
+            let at = two_places(words, taken, x, y);
+            let m = insert(words, taken, at.a, x);
+            taken = insert(words, m, moved(at.b, taken, m, x, y), y);
+            i += 2;
+        } else {
+            let x = word_in(list, width, count, i);
+            taken = insert(words, taken, place(words, taken, x), x);
+            i += 1;
+        }
     }
     taken
 }
@@ -201,14 +244,20 @@ fn last_values(list: &[u8], width: usize, count: usize, words: &[u64], n: usize,
             let z = word_in(list, width, count, i + 2);
             let w = word_in(list, width, count, i + 3);
             let at = four_places(words, n, x, y, z, w);
-            note(words, n, at.a, x, bits_in(list, width, count, i), values);
-            note(words, n, at.b, y, bits_in(list, width, count, i + 1), values);
-            note(words, n, at.c, z, bits_in(list, width, count, i + 2), values);
-            note(words, n, at.d, w, bits_in(list, width, count, i + 3), values);
+            let bits = bits_in(list, width, count, i);
+            note(words, n, at.a, x, bits, values);
+            let bits = bits_in(list, width, count, i + 1);
+            note(words, n, at.b, y, bits, values);
+            let bits = bits_in(list, width, count, i + 2);
+            note(words, n, at.c, z, bits, values);
+            let bits = bits_in(list, width, count, i + 3);
+            note(words, n, at.d, w, bits, values);
             i += 4;
         } else {
             let x = word_in(list, width, count, i);
-            note(words, n, place(words, n, x), x, bits_in(list, width, count, i), values);
+            let p = place(words, n, x);
+            let bits = bits_in(list, width, count, i);
+            note(words, n, p, x, bits, values);
             i += 1;
         }
     }

@@ -118,6 +118,12 @@ twice a b h k = lt-of-le-of-lt (mul-le-mul-left a k) (omega arith)
 pub shifted-lt : (x e : ℕ) → x < 2 ^ 53 → x % 2 ^ 64 * (1 + e % 2) < 2 ^ 54
 shifted-lt x e h = twice (x % 2 ^ 64) (1 + e % 2) (subst (λ (n : ℕ). n < 2 ^ 53) (sym (shifted x h)) h) (omega arith)
 
+pub shifted-le : (x e : ℕ) → 2 ^ 52 ≤ x → x < 2 ^ 53 → 2 ^ 52 ≤ x % 2 ^ 64 * (1 + e % 2)
+shifted-le x e k h = rw (shifted x h) (omega (arith, mul-le-mul k one))
+  where
+    one : 1 ≤ 1 + e % 2
+    one = omega arith
+
 pub root-at : (b : Bool) (n d p z root left : ℕ) → 0 < n → n < 0x7ff0_0000_0000_0000 → Parted n d p → (z ≤ 52) × (2 ^ 52 ≤ d * 2 ^ z) × (d * 2 ^ z < 2 ^ 53)
     → (root * root + left ≡ (d * 2 ^ z) % 2 ^ 64 * (1 + (p + 1074 - z) % 2) * 2 ^ 52) × (left ≤ 2 * root) × (root < 2 ^ 53) → ltb root left ≡ b
     → ofBits binary64 (((p + 1074 - z) / 2 - 26) * 2 ^ 52 + cond b (suc root) root) ≡ sqrt binary64 (ofBits binary64 n)

@@ -1,45 +1,37 @@
--- `float::root::digits_of` meets its contract. The loop's invariant is `Reached`; the measure is how many digits are to come. Assumes nothing.
-use mathlib.Core.Path.{_≡_, subst}
-use Prim.Native.Nat.{ℕ, _-_, _^_, _≤_, _<_}
+-- `float::root::digits_of` meets its contract: 14 digits, then 13, then 26. Assumes nothing.
+use borrow.Author.Needs.{needs}
+use Prim.Native.Nat.{_/_, _≤_}
 use native.Mathlib.Omega.{arith}
-use Rattle.float.proofs.RootDigits.{Reached, root-small, step, ended}
+use Rattle.float.proofs.RootDigits.{root-long}
 use Rattle.float.proofs.root.digits_of.Statement.{statement}
 use Rattle.float.proofs.root.digits_of.Tie as tie
 
-abbrev Inv-loop : tie.InvT-loop
-Inv-loop d root₀ left₀ rest₀ i₀ root left rest i = (i ≤ 53) × Reached d root left rest i
+first-digits-requires : tie.Need-first-digits-requires
+first-digits-requires c κs = search needs
 
-abbrev μ-loop : tie.MeasureT-loop
-μ-loop d root₀ left₀ rest₀ i₀ root left rest i = 53 - i
+long : (c : tie.After-first-digits) → 0x2000 ≤ c .first-digits .result .root
+long c =
+    let f = c .first-digits in
+    root-long (c .before .args .w / 0x400_0000) (f .result .root) (f .result .left) (f .ensures .0) (f .ensures .1) (omega (arith, c .before .pre .0))
 
-loop-holds : tie.Need-loop-holds Inv-loop μ-loop
-loop-holds c = (omega arith, record { all = omega arith; most = omega arith; room = c .pre; short = omega arith })
+wide-digit-requires : tie.Need-wide-digit-requires
+wide-digit-requires c κs =
+    let f = c .first-digits .ensures in
+    (omega (arith, f .2), (f .1, (omega arith, (omega (arith, long c), (omega arith, omega arith)))))
 
-next-digit-requires : tie.Need-next-digit-requires Inv-loop μ-loop
-next-digit-requires c κs =
-    let l = c .before .loop in
-    (root-small (l .root) (l .i) (l .inv .1 .short) (c .loop-test .taken), (l .inv .1 .most, omega (arith, l .inv .1 .room)))
+wide-digit-requires-2 : tie.Need-wide-digit-requires-2
+wide-digit-requires-2 c κs =
+    let f = c .before .first-digits .ensures in
+    let h = c .wide-digit .ensures in
+    (omega (arith, f .2, h .3), (h .1, (omega arith, (omega (arith, long (c .before), h .2), (omega arith, omega arith)))))
 
-mul-rest : tie.Need-mul-rest Inv-loop μ-loop
-mul-rest c = omega arith
-
-add-i : tie.Need-add-i Inv-loop μ-loop
-add-i c = omega arith
-
-loop-less : tie.Need-loop-less Inv-loop μ-loop
-loop-less c = omega arith
-
-loop-again : tie.Need-loop-again Inv-loop μ-loop
-loop-again c =
-    let l = c .before .before .loop in
-    let n = c .next-digit in
-    (omega arith, step _ (l .root) (l .left) (l .rest) (l .i) (l .inv .1) (n .result .root) (n .result .left) (n .ensures .0) (n .ensures .1) (n .ensures .2))
-
-returns : tie.Need-returns Inv-loop μ-loop
+returns : tie.Need-returns
 returns c =
-    let l = c .before .loop in
-    let e : l .i ≡ 53 = omega arith in
-    (ended _ (l .root) (l .left) (l .rest) (l .i) (l .inv .1) e, l .inv .1 .most, subst (λ (i : ℕ). l .root < 2 ^ i) e (l .inv .1 .short))
+    let f = c .before .before .first-digits .ensures in
+    let h = c .before .wide-digit .ensures in
+    let r = c .wide-digit2 .ensures in
+    (omega (arith, r .0, h .0, f .0), r .1, omega (arith, r .3, h .3, f .2))
 
 pub digits-of-spec : {M : Type 1} → statement M
-digits-of-spec = tie.close (tie.spec Inv-loop μ-loop loop-holds next-digit-requires mul-rest add-i loop-less loop-again returns)
+digits-of-spec =
+    tie.close (tie.spec first-digits-requires wide-digit-requires wide-digit-requires-2 returns)

@@ -7,7 +7,7 @@ use native.Mathlib.Omega.{arith}
 use native.Mathlib.Numerals.{add-one}
 use lib.Ieee.{binary64, ofBits}
 use borrow.Author.Tests.{lt-ltb, le-ltb}
-use Rattle.float.proofs.RootPack.{shifted-lt, root-at}
+use Rattle.float.proofs.RootPack.{shifted-le, shifted-lt, root-at}
 use Rattle.float.proofs.root.root_bits.Statement.{statement}
 use Rattle.float.proofs.root.root_bits.Tie as tie
 
@@ -43,7 +43,7 @@ mul-digits-of : tie.Need-mul-digits-of
 mul-digits-of c = omega (arith, fits-54 c)
 
 digits-of-requires : tie.Need-digits-of-requires
-digits-of-requires c κs = fits-54 c
+digits-of-requires c κs = (shifted-le (wide c) (power c) (c .before .shift-of .ensures .1) (c .before .shift-of .ensures .2), fits-54 c)
 
 sub-k : tie.Need-sub-k
 sub-k c = search needs

@@ -14,7 +14,7 @@ const USAGE: &str = "usage: compare KIND SEED COUNT         compares COUNT cases
        compare time [original]         times of both, or of the original alone, a side of a row to a line
        compare time apart              the same, each question in lent bytes of its own
        compare time apart ROOM         the reply to random logs alone, in so many lent bytes
-       compare time ROW INPUT          of one row
+       compare time [original] ROW INPUT  of one row
        compare rows                    the rows that are timed, each with its sides
        compare once ROW INPUT SIDE N   one side of a row, N times
 kinds: runs wild damaged limits sheets queries records drift";
@@ -33,6 +33,7 @@ fn main() -> ExitCode {
         ["time", "apart"] => time::apart(oracle::desk::LENT, None),
         ["time", "apart", room] => number(room).and_then(|room| time::apart(room as usize, Some(("reply", "random")))),
         ["time", row, input] => time::time(false, Some((row, input))),
+        ["time", "original", row, input] => time::time(true, Some((row, input))),
         ["rows"] => time::list(),
         ["once", row, input, side, times] => number(times).and_then(|times| time::once(row, input, side, times)),
         ["faults", kind, seed, count] => with(compare::faults, kind, seed, count),

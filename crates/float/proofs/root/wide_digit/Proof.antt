@@ -4,7 +4,7 @@ use Prim.Native.Nat.{ℕ, _+_, _*_, _/_, _%_, _<_}
 use mathlib.Core.Path.{_≡_, sym}
 use native.Mathlib.Nat.{div-add-mod', mod-lt}
 use native.Mathlib.Omega.{arith}
-use Rattle.float.proofs.RootDigits.{Sizes, Wide, above-none, sizes, kept, lowered}
+use Rattle.float.proofs.RootDigits.{Sizes, above-none, sizes, kept, lowered}
 use Rattle.float.proofs.root.wide_digit.Statement.{statement}
 use Rattle.float.proofs.root.wide_digit.Tie as tie
 

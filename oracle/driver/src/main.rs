@@ -11,10 +11,10 @@ use driver::compare;
 
 const USAGE: &str = "usage: compare KIND SEED COUNT         compares COUNT cases of a kind; stops at the first disagreement
        compare faults KIND SEED COUNT  shows that wrong answers would be seen
-       compare time [original]         times of both, or of the original alone, a side of a row to a line
+       compare time                    times of both, a side of a row to a line
        compare time apart              the same, each question in lent bytes of its own
        compare time apart ROOM         the reply to random logs alone, in so many lent bytes
-       compare time [original] ROW INPUT  of one row
+       compare time ROW INPUT          of one row
        compare rows                    the rows that are timed, each with its sides
        compare once ROW INPUT SIDE N   one side of a row, N times
 kinds: runs wild damaged limits sheets queries records drift";
@@ -28,12 +28,10 @@ fn main() -> ExitCode {
     let args: Vec<&str> = args.iter().map(String::as_str).collect();
     let with = |run: fn(&str, u64, u64) -> Result<bool, String>, kind, seed, count| run(kind, number(seed)?, number(count)?);
     let done = match args[..] {
-        ["time"] => time::time(false, None),
-        ["time", "original"] => time::time(true, None),
+        ["time"] => time::time(None),
         ["time", "apart"] => time::apart(oracle::desk::LENT, None),
         ["time", "apart", room] => number(room).and_then(|room| time::apart(room as usize, Some(("reply", "random")))),
-        ["time", row, input] => time::time(false, Some((row, input))),
-        ["time", "original", row, input] => time::time(true, Some((row, input))),
+        ["time", row, input] => time::time(Some((row, input))),
         ["rows"] => time::list(),
         ["once", row, input, side, times] => number(times).and_then(|times| time::once(row, input, side, times)),
         ["faults", kind, seed, count] => with(compare::faults, kind, seed, count),

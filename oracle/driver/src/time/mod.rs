@@ -11,8 +11,8 @@ use measure::{measured, sets};
 use rows::{Row, ROWS};
 
 /// One line for each side of each row: row, input, size, side, the medians of two sets in microseconds of processor time for one pass over the input,
-/// how many times the library's they are, samples of a set, passes of a sample. With `original_only` the library's side is checked but not timed; with `only` one row is timed.
-pub fn time(original_only: bool, only: Option<(&str, &str)>) -> Result<bool, String> {
+/// how many times the library's they are, samples of a set, passes of a sample. With `only` one row is timed.
+pub fn time(only: Option<(&str, &str)>) -> Result<bool, String> {
     println!("row\tinput\tsize\tside\tfirst\tsecond\ttimes\ttimes\tsamples\tpasses");
     for (name, input) in ROWS.iter().flat_map(|(name, inputs)| inputs.iter().map(move |input| (name, input))) {
         if only.is_some_and(|only| only != (*name, *input)) {
@@ -22,10 +22,7 @@ pub fn time(original_only: bool, only: Option<(&str, &str)>) -> Result<bool, Str
         let row = rows::row(name, input, &folder)?;
         row.check().map_err(|e| format!("{name} on {input}: {e}"))?;
         let Row { size, mut library, mut parsed, mut whole, mut parse, .. } = row;
-        let mut sides: Vec<(&str, &mut dyn FnMut() -> u64)> = Vec::new();
-        if !original_only {
-            sides.push(("library", &mut library));
-        }
+        let mut sides: Vec<(&str, &mut dyn FnMut() -> u64)> = vec![("library", &mut library)];
         for (side, call) in [("parsed", &mut parsed), ("whole", &mut whole), ("parse", &mut parse)] {
             if let Some(call) = call {
                 sides.push((side, call));
@@ -43,7 +40,7 @@ pub fn time(original_only: bool, only: Option<(&str, &str)>) -> Result<bool, Str
 pub fn apart(room: usize, only: Option<(&str, &str)>) -> Result<bool, String> {
     rows::APART.store(true, Ordering::Relaxed);
     rows::ROOM.store(room, Ordering::Relaxed);
-    time(false, only)
+    time(only)
 }
 
 /// The rows' names and inputs, a row to a line, with its sides.

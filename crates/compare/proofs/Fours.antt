@@ -1,4 +1,4 @@
--- A walk along records by fours: what `search::recovers` and `search::lists` ask.
+-- A walk along records by fours: what `search::recovers` and `search::lists` ask, and what they look for.
 -- Assumes nothing.
 use Prim.Native.Nat.{ℕ, zero, suc, _+_, _*_, _≤_, _<_}
 use mathlib.Core.Path.{_≡_, refl, ap, _∙_}
@@ -6,11 +6,23 @@ use mathlib.Core.Bool.{Bool, true, false, _||_}
 use mathlib.Core.List.{List}
 use native.Mathlib.Nat.{add-zero}
 use native.Mathlib.Omega.{arith}
+use lib.Dec.{eqb}
 use lib.ListN.{drop}
 use lib.Seq.{drop-drop}
 use Rattle.wire.specs.Table.{records}
+use Rattle.types.specs.Order.{signExtended}
+use Rattle.types.specs.declared.order.OrderId.{OrderId}
 use Rattle.records.specs.Search.{anyWhere}
+use Rattle.records.specs.declared.order.Order.{Order}
 use Rattle.records.proofs.Walk.{rest, rest-next}
+use Rattle.sheet.specs.declared.BrokerOrderStatus.{BrokerOrderStatus}
+
+-- a recovered order that names the broker's, an order of the broker's with a number
+abbrev pub names : OrderId → Order → Bool
+names id o = eqb (signExtended (o .id)) (id .0)
+
+abbrev pub numbered : ℕ → BrokerOrderStatus → Bool
+numbered id b = eqb id (b .id .0)
 
 or-false : (a : Bool) → (a || false) ≡ a
 or-false true = refl
@@ -41,13 +53,11 @@ module _ {A : Type 0} (f : A → Bool) (g : List ℕ → A) (w : ℕ) where
     any-next i zero h = rw (add-zero i)
     any-next i (suc k) h =
         let one : i + 1 + k ≡ i + suc k = omega arith in
-        let at : drop w (drop (w * i) s) ≡ drop (w * (i + 1)) s = drop-drop w (w * i) s ∙ ap (λ (p : ℕ). drop p s) (place i) in
+        let next : w * i + w ≡ w * (i + 1) = omega arith in
+        let at : drop w (drop (w * i) s) ≡ drop (w * (i + 1)) s = drop-drop w (w * i) s ∙ ap (λ (p : ℕ). drop p s) next in
         let p = f (g (drop (w * i) s)) in
         rw (rest-next g w n s i (omega arith), at, ← one)
         (ap (λ (b : Bool). p || b) (any-next (i + 1) k (omega arith)) ∙ or-assoc p (anyWhere f (records g w k (drop (w * (i + 1)) s))) (anyWhere f (rest g w n s (i + 1 + k))))
-      where
-        place : (i : ℕ) → w * i + w ≡ w * (i + 1)
-        place i = omega arith
 
     pub four-here : (i : ℕ) → i + 3 < n → anyWhere f (records g w 4 (drop (w * i) s)) ≡ true → anyWhere f (rest g w n s i) ≡ true
     four-here i h e = any-next i 4 (omega arith) ∙ rw e

@@ -4,8 +4,7 @@ use Prim.Native.Nat.{ℕ, zero, suc, _+_, _*_, _/_, _%_, _≤_, _<_}
 use mathlib.Core.Path.{_≡_, refl, sym, ap, _∙_}
 use mathlib.Core.Bool.{Bool, true, false, cond}
 use mathlib.Core.List.{List, [], _∷_, map}
-use native.Mathlib.Nat.{add-zero, mul-suc, mul-le-mul, le-refl}
-use native.Mathlib.Numerals.{add-one}
+use native.Mathlib.Nat.{add-zero, mul-le-mul, le-refl}
 use native.Mathlib.Omega.{arith}
 use lib.Dec.{eqb, ltb}
 use borrow.Author.Tests.{ltb-false}
@@ -30,7 +29,6 @@ use Rattle.drift.proofs.Sized.{Sized, sized, same-by-key}
 -- ---- a row of a list that is all there
 pub row-there : (s : List ℕ) (w count i : ℕ) → Listed s w count → i < count → (w * i + w ≤ length s) × (w * i + w ≤ 32768)
 row-there s w count i l h =
-    let next : w * (i + 1) ≡ w * i + w = rw (add-one, mul-suc) in
     let last : w * (i + 1) ≤ w * count = mul-le-mul (le-refl w) (omega arith) in
     (omega (arith, l .there), omega (arith, mul-le-mul (l .most) (l .few)))
 

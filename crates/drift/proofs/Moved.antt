@@ -20,20 +20,22 @@ use Rattle.drift.proofs.Inserted.{Between, shifted, sides}
 abbrev pub less : ℕ → ℕ → ℕ
 less x y = boolByte (ltb (key x) (key y))
 
-pub part : (d : ℕ) (v : Bool) → d * boolByte v ≤ d
-part d true = omega arith
-part d false = omega arith
+-- all or nothing of a number
+pub part-most : (d : ℕ) (v : Bool) → d * boolByte v ≤ d
+part-most d true = omega arith
+part-most d false = omega arith
 
-unfoldable below : ℕ → List ℕ → ℕ
-below y [] = 0
-below y (z ∷ zs) = less z y + below y zs
+-- how many have a smaller key
+unfoldable smaller : ℕ → List ℕ → ℕ
+smaller y [] = 0
+smaller y (z ∷ zs) = less z y + smaller y zs
 
-below-most : (y : ℕ) (t : List ℕ) → below y t ≤ length t
-unfolding below
-below-most y [] = omega arith
-below-most y (z ∷ zs) = by (below-most y zs) (ltb (key z) (key y))
+smaller-most : (y : ℕ) (t : List ℕ) → smaller y t ≤ length t
+unfolding smaller
+smaller-most y [] = omega arith
+smaller-most y (z ∷ zs) = by (smaller-most y zs) (ltb (key z) (key y))
   where
-    by : below y zs ≤ length zs → (v : Bool) → boolByte v + below y zs ≤ suc (length zs)
+    by : smaller y zs ≤ length zs → (v : Bool) → boolByte v + smaller y zs ≤ suc (length zs)
     by l true = omega arith
     by l false = omega arith
 
@@ -41,21 +43,21 @@ below-most y (z ∷ zs) = by (below-most y zs) (ltb (key z) (key y))
 record Grown (x : ℕ) (t after : List ℕ) : Type 0 where
   d : ℕ
   size : length after ≡ length t + d
-  more : (y : ℕ) → below y after ≡ below y t + d * less x y
+  more : (y : ℕ) → smaller y after ≡ smaller y t + d * less x y
 
 grown : (x : ℕ) (t : List ℕ) → Grown x t (inserted keyFirst x t)
-unfolding inserted below
+unfolding inserted smaller
 grown x [] = record { d = 1; size = refl; more = λ y. omega arith }
 grown x (z ∷ zs) = by (grown x zs) (ltb (key x) (key z)) (ltb (key z) (key x))
   where
     by : Grown x zs (inserted keyFirst x zs) → (u v : Bool) → Grown x (z ∷ zs) (cond u (x ∷ z ∷ zs) (cond v (z ∷ inserted keyFirst x zs) (z ∷ zs)))
     by g true v = record { d = 1; size = omega arith; more = λ y. omega arith }
-    by g false true = record { d = g .d; size = omega (arith, g .size); more = λ y. ap (λ (k : ℕ). less z y + k) (g .more y) ∙ sym (add-assoc (less z y) (below y zs) (g .d * less x y)) }
+    by g false true = record { d = g .d; size = omega (arith, g .size); more = λ y. ap (λ (k : ℕ). less z y + k) (g .more y) ∙ sym (add-assoc (less z y) (smaller y zs) (g .d * less x y)) }
     by g false false = record { d = 0; size = omega arith; more = λ y. omega arith }
 
 -- a place counts what lies before it
-counted : (y : ℕ) (t : List ℕ) (q : ℕ) → q ≤ length t → Between t y q → below y t ≡ q
-unfolding below
+counted : (y : ℕ) (t : List ℕ) (q : ℕ) → q ≤ length t → Between t y q → smaller y t ≡ q
+unfolding smaller
 counted y [] q h b = omega arith
 counted y (z ∷ zs) zero h b =
     let k = counted y zs 0 (omega arith) (record { low = λ i l. absurd (not-suc-le-zero l); high = λ i l m. b .high (suc i) (omega arith) (omega arith) }) in
@@ -65,29 +67,29 @@ counted y (z ∷ zs) (suc q) h b =
     rw (lt-ltb (key z) (key y) (b .low 0 (omega arith))) (omega arith)
 
 -- and in a list in order what is counted is the place
-behind : (y : ℕ) (t : List ℕ) → Rising key t → Between t y (below y t)
-unfolding below
-behind y [] Code.Rising.none = record { low = λ i l. absurd (not-suc-le-zero l); high = λ i l m. absurd (not-suc-le-zero m) }
-behind y (z ∷ zs) (Code.Rising.more o r) = by (behind y zs r) (ltb (key z) (key y)) refl
+placed-counted : (y : ℕ) (t : List ℕ) → Rising key t → Between t y (smaller y t)
+unfolding smaller
+placed-counted y [] Code.Rising.none = record { low = λ i l. absurd (not-suc-le-zero l); high = λ i l m. absurd (not-suc-le-zero m) }
+placed-counted y (z ∷ zs) (Code.Rising.more o r) = by (placed-counted y zs r) (ltb (key z) (key y)) refl
   where
     all : key y ≤ key z → (i : ℕ) → i < length zs → key y ≤ key (getD zs i 0)
     all l i m = let k = over-at key o i 0 m in omega arith
 
-    by : Between zs y (below y zs) → (v : Bool) → ltb (key z) (key y) ≡ v → Between (z ∷ zs) y (boolByte v + below y zs)
+    by : Between zs y (smaller y zs) → (v : Bool) → ltb (key z) (key y) ≡ v → Between (z ∷ zs) y (boolByte v + smaller y zs)
     by b true e = record { low = low; high = high }
       where
-        low : (i : ℕ) → i < 1 + below y zs → key (getD (z ∷ zs) i 0) < key y
+        low : (i : ℕ) → i < 1 + smaller y zs → key (getD (z ∷ zs) i 0) < key y
         low zero l = ltb-true (key z) (key y) e
         low (suc i) l = b .low i (omega arith)
 
-        high : (i : ℕ) → 1 + below y zs ≤ i → i < length (z ∷ zs) → key y ≤ key (getD (z ∷ zs) i 0)
+        high : (i : ℕ) → 1 + smaller y zs ≤ i → i < length (z ∷ zs) → key y ≤ key (getD (z ∷ zs) i 0)
         high zero l m = absurd (omega arith)
         high (suc i) l m = b .high i (omega arith) (omega arith)
     by b false e =
         let l = ltb-false (key z) (key y) e in
-        let none : below y zs ≡ 0 = counted y zs 0 (omega arith) (record { low = λ i k. absurd (not-suc-le-zero k); high = λ i k m. all l i m }) in
-        let zero-in-all : 0 ≡ 0 + below y zs = omega arith in
-        subst (Between (z ∷ zs) y) zero-in-all (record { low = λ i k. absurd (not-suc-le-zero k); high = high l })
+        let none : smaller y zs ≡ 0 = counted y zs 0 (omega arith) (record { low = λ i k. absurd (not-suc-le-zero k); high = λ i k m. all l i m }) in
+        let nought : 0 ≡ 0 + smaller y zs = omega arith in
+        subst (Between (z ∷ zs) y) nought (record { low = λ i k. absurd (not-suc-le-zero k); high = high l })
       where
         high : key y ≤ key z → (i : ℕ) → 0 ≤ i → i < length (z ∷ zs) → key y ≤ key (getD (z ∷ zs) i 0)
         high l zero k m = l
@@ -98,20 +100,20 @@ rises-still ws after n m x r e = subst (Rising key) (sym e) (rising-inserted key
 
 module _ (ws after : List ℕ) (n m x y q : ℕ) (r : Rising key (take n ws)) (h : n ≤ length ws) (g : m ≤ length after)
     (e : take m after ≡ inserted keyFirst x (take n ws)) (p : Place ws n y q) where
-  now-at : below y (take m after) ≡ q + (m - n) * less x y
-  now-at =
+  counted-after : smaller y (take m after) ≡ q + (m - n) * less x y
+  counted-after =
       let t = take n ws in
       let c = grown x t in
-      let was : below y t ≡ q = counted y t q (rw (length-take-le n ws h) (p .most)) (sides ws n y q r h p) in
+      let was : smaller y t ≡ q = counted y t q (rw (length-take-le n ws h) (p .most)) (sides ws n y q r h p) in
       let long : m ≡ n + c .d = sym (length-take-le m after g) ∙ ap length e ∙ c .size ∙ ap (λ (k : ℕ). k + c .d) (length-take-le n ws h) in
       let d : c .d ≡ m - n = omega arith in
-      ap (below y) e ∙ c .more y ∙ rw (was, d)
+      ap (smaller y) e ∙ c .more y ∙ rw (was, d)
 
   pub place-moved : Place after m y (q + (m - n) * less x y)
   place-moved =
       let t = take m after in
-      let b : Between t y (q + (m - n) * less x y) = subst (Between t y) now-at (behind y t (rises-still ws after n m x r e)) in
-      let l : q + (m - n) * less x y ≤ m = rw (now-at, length-take-le m after g) at (below-most y t) in
+      let b : Between t y (q + (m - n) * less x y) = subst (Between t y) counted-after (placed-counted y t (rises-still ws after n m x r e)) in
+      let l : q + (m - n) * less x y ≤ m = rw (counted-after, length-take-le m after g) at (smaller-most y t) in
       record {
         most = l;
         below = λ k. let i = q + (m - n) * less x y - 1 in rw (getD-take m after i 0 (omega arith)) at (b .low i (omega arith));

@@ -1,4 +1,5 @@
--- The digits of a square root, one for each two of the number's: what `next_digit` makes, and the invariant of the loop of `first_digits`, its step and its end. Assumes nothing.
+-- The digits of a square root, one for each two of the number's: what `next_digit` makes, and the invariant of the loop of `first_digits`, its step and its end;
+-- and what `wide_digit` makes, a digit in a larger base. Assumes nothing.
 use mathlib.Core.Path.{_≡_, refl, sym, ap, subst, _∙_}
 use mathlib.Core.Bool.{Bool, true, false}
 use Prim.Native.Nat.{ℕ, zero, suc, _+_, _-_, _*_, _/_, _%_, _^_, _≤_, _<_}
@@ -69,10 +70,10 @@ root-long d root left e h k = go (leb 0x2000 root) refl
         let l : root ≤ 0x1fff = omega (arith, leb-false 0x2000 root t) in
         absurd (omega (arith, mul-le-mul l l))
 
--- a square above another number is of no zero
-pub above-none : (q : ℕ) {n : ℕ} → n < q * q → 0 < q
-above-none zero h = absurd (not-suc-le-zero h)
-above-none (suc q) h = omega arith
+-- a digit whose square is above a number is not 0
+pub digit-some : (q : ℕ) {n : ℕ} → n < q * q → 0 < q
+digit-some zero h = absurd (not-suc-le-zero h)
+digit-some (suc q) h = omega arith
 
 -- ---- one more digit in base b: q, or one less, where a division leaves u
 module _ (root left b hi lo q u : ℕ) (H : left ≤ 2 * root) (B : b ≤ 2 * root) (I : hi < b) (L : lo < b) (D : left * b + hi ≡ q * (2 * root) + u) (U : u < 2 * root) where

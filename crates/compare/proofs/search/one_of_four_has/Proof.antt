@@ -2,18 +2,14 @@
 use borrow.Author.Needs.{needs}
 use Prim.Native.Nat.{ℕ}
 use mathlib.Core.Path.{_≡_, refl, sym, _∙_}
-use mathlib.Core.Bool.{Bool, true, false}
+use mathlib.Core.Bool.{true, false}
 use denote.Ref.{now}
 use lib.Dec.{eqb}
 use borrow.Author.Tests.{eq-eqb, ne-eqb}
 use Rattle.sheet.specs.Sheet.{brokerOrderOf}
-use Rattle.sheet.specs.declared.BrokerOrderStatus.{BrokerOrderStatus}
-use Rattle.compare.proofs.Fours.{any-is}
+use Rattle.compare.proofs.Fours.{numbered, any-is}
 use Rattle.compare.proofs.search.one_of_four_has.Statement.{statement}
 use Rattle.compare.proofs.search.one_of_four_has.Tie as tie
-
-abbrev numbered : ℕ → BrokerOrderStatus → Bool
-numbered id b = eqb id (b .id .0)
 
 -- the test of a number that was read
 passed : {id m n : ℕ} → id ≡ m → m ≡ n → eqb id n ≡ true

@@ -1,19 +1,12 @@
 -- `search::one_of_four_is`: one order after another.
 use borrow.Author.Needs.{needs}
 use mathlib.Core.Path.{refl, sym, _∙_}
-use mathlib.Core.Bool.{Bool, true, false}
+use mathlib.Core.Bool.{true, false}
 use denote.Ref.{now}
-use lib.Dec.{eqb}
-use Rattle.types.specs.Order.{signExtended}
-use Rattle.types.specs.declared.order.OrderId.{OrderId}
 use Rattle.records.specs.Record.{orderOf}
-use Rattle.records.specs.declared.order.Order.{Order}
-use Rattle.compare.proofs.Fours.{any-is}
+use Rattle.compare.proofs.Fours.{names, any-is}
 use Rattle.compare.proofs.search.one_of_four_is.Statement.{statement}
 use Rattle.compare.proofs.search.one_of_four_is.Tie as tie
-
-abbrev names : OrderId → Order → Bool
-names id o = eqb (signExtended (o .id)) (id .0)
 
 order-is-requires : tie.Need-order-is-requires
 order-is-requires c κs = search needs

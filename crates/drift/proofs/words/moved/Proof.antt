@@ -5,7 +5,7 @@ use Rattle.drift.proofs.words.moved.Tie as tie
 use Prim.Native.Nat.{_-_}
 use native.Mathlib.Omega.{arith}
 use lib.Dec.{ltb}
-use Rattle.drift.proofs.Moved.{part}
+use Rattle.drift.proofs.Moved.{part-most}
 
 sub-result : tie.Need-sub-result
 sub-result c = search needs
@@ -22,12 +22,12 @@ cast-result c = search needs
 mul-result : tie.Need-mul-result
 mul-result c =
     let a = c .before .before .args in
-    record { fits = omega (arith, part (a .m - a .n) (ltb (c .before .key-of .result) (c .key-of2 .result))) }
+    record { fits = omega (arith, part-most (a .m - a .n) (ltb (c .before .key-of .result) (c .key-of2 .result))) }
 
 add-result : tie.Need-add-result
 add-result c =
     let a = c .before .before .args in
-    record { fits = omega (arith, part (a .m - a .n) (ltb (c .before .key-of .result) (c .key-of2 .result))) }
+    record { fits = omega (arith, part-most (a .m - a .n) (ltb (c .before .key-of .result) (c .key-of2 .result))) }
 
 returns : tie.Need-returns
 returns c = rw (c .before .key-of .ensures, c .key-of2 .ensures)

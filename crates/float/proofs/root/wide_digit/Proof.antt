@@ -4,7 +4,7 @@ use Prim.Native.Nat.{ℕ, _+_, _*_, _/_, _%_, _<_}
 use mathlib.Core.Path.{_≡_, sym}
 use native.Mathlib.Nat.{div-add-mod', mod-lt}
 use native.Mathlib.Omega.{arith}
-use Rattle.float.proofs.RootDigits.{Sizes, above-none, sizes, kept, lowered}
+use Rattle.float.proofs.RootDigits.{Sizes, digit-some, sizes, kept, lowered}
 use Rattle.float.proofs.root.wide_digit.Statement.{statement}
 use Rattle.float.proofs.root.wide_digit.Tie as tie
 
@@ -66,19 +66,19 @@ returns c =
     (w .all, w .most, w .least, w .short)
 
 sub-t13 : tie.Need-sub-t13
-sub-t13 c = let l = above-none (digit (c .before)) (c .if1 .left) in omega arith
+sub-t13 c = let l = digit-some (digit (c .before)) (c .if1 .left) in omega arith
 
 mul-t12 : tie.Need-mul-t12
 mul-t12 c = record { fits = omega (arith, fit (c .before) .product, fit (c .before) .digit) }
 
 sub-t11 : tie.Need-sub-t11
-sub-t11 c = let l = above-none (digit (c .before)) (c .if1 .left) in omega arith
+sub-t11 c = let l = digit-some (digit (c .before)) (c .if1 .left) in omega arith
 
 add-t16 : tie.Need-add-t16
 add-t16 c = record { fits = omega (arith, fit (c .before) .product, fit (c .before) .digit, fit (c .before) .rest) }
 
 sub-t17 : tie.Need-sub-t17
-sub-t17 c = omega (arith, fit (c .before) .taken, above-none (digit (c .before)) (c .if1 .left))
+sub-t17 c = omega (arith, fit (c .before) .taken, digit-some (digit (c .before)) (c .if1 .left))
 
 returns-2 : tie.Need-returns-2
 returns-2 c =

@@ -14,7 +14,6 @@ use Rattle.wire.specs.declared.layout.Layout.the-variants as L
 use Rattle.wire.proofs.Layouts.{both-sound}
 use Rattle.wire.proofs.Written.{Bytes}
 use Rattle.wire.proofs.Records.{length-encoded}
-use Rattle.symbol.specs.declared.Symbol.{Symbol}
 use Rattle.book.specs.Layout.{bookLayout}
 use Rattle.sheet.specs.Sheet.{sheetLayout, sheetOrders, ordersFailed}
 use Rattle.records.specs.Record.{orderBytes, ordersIn, ordersLayout}
@@ -40,7 +39,7 @@ use Rattle.join.specs.declared.Joining.the-variants as Joins
 use Rattle.rounds.specs.Rounds.{Round, Outcome, afterJoin, joinRound, lentOrders, lentAddendum, afterReconciling, reconcileRound, afterRecovery, roundOf, done}
 use Rattle.rounds.specs.declared.Rounded.the-variants.{NoRoom}
 use Rattle.rounds.proofs.Answers.{by-bool, take-padded, done-parts, reconciles-done, never-broken, Joinable, Third, third-passed, joining-is}
-use Rattle.demand3.specs.Demand3.{recovered, openIntents, passes}
+use Rattle.demand3.specs.Demand3.{recovered, openIntents, reachedBy, addendumOf, passes}
 use Rattle.sound_state.proofs.Recovered.{recovered-orders-sound, recovered-orders-in, time-apart}
 
 -- ---- the first call
@@ -91,23 +90,16 @@ first-full r log s t f = ap (λ (v : Recovery). afterRecovery r log v .answer) f
     full = unfold recovery in rw (s, t, f)
 
 -- ---- the second call
--- the symbols of the intents reached, and the addendum of their entries
-abbrev pub roundSymbols : Round → List ℕ → List Symbol
-roundSymbols r log = reached (ordersFailed (r .sheet)) (recovered log .orders) (r .queries)
-
-abbrev pub roundAddendum : Round → List ℕ → List ℕ
-roundAddendum r log = addendum (chosen (sheetOrders (r .sheet))) (r .time) (recovered log .marks .number) (roundSymbols r log)
-
 pub record Askable (r : Round) (log : List ℕ) : Type 0 where
   pub few : leb ordersMost (64 * length (recovered log .orders)) ≡ false
   pub sheet : sheetLayout (r .sheet) ≡ L.Sound
   pub time : timeLayout (r .time) ≡ L.Sound
   pub numbers : numbersLeft (recovered log .marks .number) (openIntents log) ≡ true
-  pub size : tooLarge (length (roundAddendum r log)) (length (roundSymbols r log)) 0 ≡ false
+  pub size : tooLarge (length (addendumOf r log)) (length (reachedBy r log)) 0 ≡ false
 
 pub record Second (r : Round) (log : List ℕ) : Type 0 where
   pub askable : Askable r log
-  pub room : ltb (r .addendum) (length (roundAddendum r log)) ≡ false
+  pub room : ltb (r .addendum) (length (addendumOf r log)) ≡ false
 
 -- what it is lent: the marks' number and the orders
 number-apart : (log : List ℕ) (now : ℤ) → stateOf log now .marks .number ≡ recovered log .marks .number
@@ -146,7 +138,7 @@ addendum-by r m d k os p q =
     ∙ ap (λ (x : ℕ). addendum (chosen (sheetOrders (r .sheet))) (r .time) x (reached (ordersFailed (r .sheet)) os (r .queries))) p
 
 abbrev asked : Round → List ℕ → Reconciling
-asked r log = answerBy r (64 * length (recovered log .orders)) L.Sound (recovered log .orders) (recovered log .marks .number) (roundAddendum r log)
+asked r log = answerBy r (64 * length (recovered log .orders)) L.Sound (recovered log .orders) (recovered log .marks .number) (addendumOf r log)
 
 -- taken apart
 record Answered (r : Round) (len : ℕ) (os : List Order) (k : ℕ) (a : List ℕ) (y : Reconciled) : Type 0 where
@@ -193,7 +185,7 @@ module _ (r : Round) (log : List ℕ) (b : Bytes log) (s : bookLayout log ≡ L.
   length-back = ap length (lent-is r log s f) ∙ length-encoded orderBytes 64 order-size (recovered log .orders)
 
   addendum-back :
-      Lent.lentAddendum (stateOf log (r .now) .marks) (lentOrders r log (recoveredAt log (r .now))) (r .sheet) (r .queries) (r .time) ≡ roundAddendum r log
+      Lent.lentAddendum (stateOf log (r .now) .marks) (lentOrders r log (recoveredAt log (r .now))) (r .sheet) (r .queries) (r .time) ≡ addendumOf r log
   addendum-back =
       addendum-by r (stateOf log (r .now) .marks) (lentOrders r log (recoveredAt log (r .now))) (recovered log .marks .number) (recovered log .orders)
       (number-apart log (r .now)) orders-back
@@ -216,7 +208,7 @@ module _ (r : Round) (log : List ℕ) (b : Bytes log) (s : bookLayout log ≡ L.
       let m = stateOf log (r .now) .marks in
       let v = reconciles r log (recoveredAt log (r .now)) (reconciling m d (r .sheet) (r .queries) (r .time) (r .addendum)) h in
       let p =
-      answered r (64 * length (recovered log .orders)) (recovered log .orders) (recovered log .marks .number) (roundAddendum r log) (v .given)
+      answered r (64 * length (recovered log .orders)) (recovered log .orders) (recovered log .marks .number) (addendumOf r log) (v .given)
       (sym asked-is ∙ v .is) in
       record { askable = record { few = p .few; sheet = p .sheet; time = p .time; numbers = p .numbers; size = p .size }; room = p .room }
 
@@ -224,35 +216,35 @@ module _ (r : Round) (log : List ℕ) (b : Bytes log) (s : bookLayout log ≡ L.
   abbrev pub reconciledBy : Reconciled
   reconciledBy =
       record {
-        entries = length (roundSymbols r log);
+        entries = length (reachedBy r log);
         unreached = unreached (ordersFailed (r .sheet)) (recovered log .orders) (r .queries);
-        length = length (roundAddendum r log);
+        length = length (addendumOf r log);
       }
 
   asked-done : Second r log → asked r log ≡ Ask.Done reconciledBy
   unfolding answerBy
   asked-done q = rw (q .askable .few, q .askable .sheet, q .askable .time, q .askable .numbers, q .askable .size, q .room)
 
-  asked-full : Askable r log → ltb (r .addendum) (length (roundAddendum r log)) ≡ true → asked r log ≡ Ask.NoRoom
+  asked-full : Askable r log → ltb (r .addendum) (length (addendumOf r log)) ≡ true → asked r log ≡ Ask.NoRoom
   unfolding answerBy
   asked-full q h = rw (q .few, q .sheet, q .time, q .numbers, q .size, h)
 
   -- refused by 3 alone
-  pub second-full : Askable r log → ltb (r .addendum) (length (roundAddendum r log)) ≡ true
+  pub second-full : Askable r log → ltb (r .addendum) (length (addendumOf r log)) ≡ true
       → reconcileRound r log (recoveredAt log (r .now)) .answer ≡ NoRoom
   unfolding reconcileRound
   second-full q h = ap (λ (v : Reconciling). afterReconciling r log (recoveredAt log (r .now)) v .answer) (asked-is ∙ asked-full q h)
 
-  lent-addendum : Second r log → lentAddendum r log (recoveredAt log (r .now)) reconciledBy ≡ roundAddendum r log
+  lent-addendum : Second r log → lentAddendum r log (recoveredAt log (r .now)) reconciledBy ≡ addendumOf r log
   unfolding addendumOut
   lent-addendum q =
       let d = lentOrders r log (recoveredAt log (r .now)) in
       let m = stateOf log (r .now) .marks in
-      let a = roundAddendum r log in
+      let a = addendumOf r log in
       ap (λ (v : Reconciling). take (length a) (addendumBytesIf v (r .addendum) (Lent.lentAddendum m d (r .sheet) (r .queries) (r .time)))) (asked-is ∙ asked-done q)
       ∙ ap (λ (x : List ℕ). take (length a) (padded (r .addendum) x)) addendum-back ∙ take-padded (r .addendum) a
 
-  pub second-is : Second r log → reconcileRound r log (recoveredAt log (r .now)) ≡ joinRound r log (roundAddendum r log)
+  pub second-is : Second r log → reconcileRound r log (recoveredAt log (r .now)) ≡ joinRound r log (addendumOf r log)
   unfolding reconcileRound
   second-is q =
       ap (afterReconciling r log (recoveredAt log (r .now))) (asked-is ∙ asked-done q) ∙ ap (joinRound r log) (lent-addendum q)
@@ -277,11 +269,11 @@ third-done r log b s t = ap (λ (v : Joining). done (afterJoin r log b v .answer
 pub record Passed (r : Round) (log : List ℕ) : Type 0 where
   pub first : First r log
   pub second : Second r log
-  pub third : Third r log (roundAddendum r log)
-  pub is : roundOf r log ≡ joinRound r log (roundAddendum r log)
+  pub third : Third r log (addendumOf r log)
+  pub is : roundOf r log ≡ joinRound r log (addendumOf r log)
 
 pub stages : (r : Round) (log : List ℕ) → Bytes log → bookLayout log ≡ L.Sound → First r log → Second r log
-    → roundOf r log ≡ joinRound r log (roundAddendum r log)
+    → roundOf r log ≡ joinRound r log (addendumOf r log)
 stages r log b s f q = first-is r log s f ∙ second-is r log b s f q
 
 pub passed : (r : Round) (log : List ℕ) → Bytes log → bookLayout log ≡ L.Sound → passes r log ≡ true → Passed r log
@@ -290,4 +282,4 @@ passed r log b s h =
     let h₂ = sym (ap (λ (o : Outcome). done (o .answer)) (first-is r log s f)) ∙ h in
     let q = second-passed r log b s f h₂ in
     let h₃ = sym (ap (λ (o : Outcome). done (o .answer)) (second-is r log b s f q)) ∙ h₂ in
-    record { first = f; second = q; third = third-passed r log (roundAddendum r log) s h₃; is = stages r log b s f q }
+    record { first = f; second = q; third = third-passed r log (addendumOf r log) s h₃; is = stages r log b s f q }

@@ -19,5 +19,7 @@ pub mod NextLog
 pub mod EntriesJoined
 pub mod Leading
 pub mod OneRound
+pub mod OfIntents
+pub mod Uncut
 pub mod Theorem
 pub mod RoundExamples

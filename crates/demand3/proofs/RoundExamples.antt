@@ -1,19 +1,19 @@
--- Rounds on books of bytes, by computation: a log that demand 3 is about, taken to its end with failures and cuts; and logs and a broker that it leaves out,
--- each for a reason. About no function.
+-- Rounds on books of bytes, by computation: a log that demand 3 is about, taken to its end with failures and cuts; and inputs that it leaves out, which show
+-- that without any one of its premises the claim is false. About no function.
 -- Assumes nothing.
 use Prim.Native.Nat.{ℕ, _+_, _^_}
-use mathlib.Core.Path.{_≡_, refl, sym, ap, _∙_}
+use mathlib.Core.Path.{_≡_, refl, sym, _∙_}
 use mathlib.Core.List.{List, [], _∷_, _++_}
-use mathlib.Core.Bool.{Bool, true, true≢false}
+use mathlib.Core.Bool.{Bool, true, false, true≢false}
+use native.Mathlib.Omega.{arith}
 use lib.Dec.{ltb, lit<}
-use lib.Ieee.{ofBits}
+use lib.Ieee.{ofBits, toSigned}
 use lib.IntN.{pos}
 use lib.ListN.{length, take, replicate}
-use borrow.Author.Tests.{ltb-true}
+use borrow.Author.Tests.{ltb-true, leb-true}
 use Rattle.wire.specs.Le.{le, bytesOf, sameBytes}
 use Rattle.wire.specs.Table.{every, records, encoded, padded}
 use Rattle.wire.specs.declared.layout.Layout.the-variants as L
-use Rattle.wire.proofs.Written.{Bytes, none, more}
 use Rattle.symbol.specs.Symbol.{allOf, parses, parsed, fieldOk, wideFieldOk}
 use Rattle.wire.proofs.Bools.{and-left, and-right}
 use Rattle.cell.specs.Cell.{cellBy, cellOf}
@@ -22,6 +22,7 @@ use Rattle.book.specs.Layout as Book
 use Rattle.checkpoint.specs.Checkpoint.{ascii, eventName, checkpoints, namedAmong, named}
 use Rattle.sheet.specs.Sheet.{markOk, headerOk, brokerOrderOk, sheetLayout, sheetOrders}
 use Rattle.sheet.specs.Sheet as Sheet
+use Rattle.sheet.specs.declared.BrokerOrderStatus.{BrokerOrderStatus}
 use Rattle.records.specs.Record.{orderBytes, orderOf, orderOk, tableOk}
 use Rattle.records.specs.Search.{anyWhere, countWhere, changeFirst}
 use Rattle.marks.specs.Marks.{marksAt}
@@ -31,11 +32,13 @@ use Rattle.audit.specs.declared.validate.Verdict.the-variants as Ver
 use Rattle.audit.proofs.BookBytes.{EventParts, part, numbered, numberedWith, eventTable, bookBytes}
 use Rattle.marks.specs.Action.{actionOf}
 use Rattle.recovery.specs.Recover.{steps, roomy, recovery, ordersOut, positionsOut}
-use Rattle.join.specs.Join.{bookOf, each, movedCell, movedRow, movedEvent, joined, joining, joinOut}
+use Rattle.join.specs.Join.{bookOf, each, movedCell, movedRow, movedEvent, joined, joinedLength, joining, joinOut}
 use Rattle.intents.specs.Intents.{query, chosen, reached, unreached, entryText, entryBytes, entryTable, entryTexts, addendum, reconciling, addendumOut}
 use Rattle.intents.specs.Intents as Lent
-use Rattle.rounds.specs.Rounds.{Round, joinRound, reconcileRound, roundOf, next, run, roundOrdersOut, roundPositionsOut, roundAddendumOut, roundLogOut, roundWith, done}
-use Rattle.demand3.specs.Demand3.{recovered, openIntents, NoRepeat, added, passes, answered, Small, OneList, Uncut, sameRecovered, Demand3}
+use Rattle.rounds.specs.Rounds.{Round, joinRound, reconcileRound, roundOf, next, run, roundOrdersOut, roundPositionsOut, roundAddendumOut, roundLogOut, roundWith}
+use Rattle.state.specs.State.{samePair, sameMarks, sameTexts, sameOrder, samePosition, sameLists, sameState}
+use Rattle.demand3.specs.Demand3.{recovered, openIntents, NoRepeat, added, addendumOf, passes, Whole, answered, Small, OneList, Uncut, Room, sameRecovered, Demand3}
+use Rattle.demand3.specs.Claim.{AreBytes, Premises}
 use Rattle.rounds.specs.declared.Rounded.the-variants as R
 use Rattle.demand3.proofs.Theorem.{demand3}
 
@@ -49,10 +52,10 @@ opened = tt
 unfoldable isByte : ℕ → Bool
 isByte b = ltb b 256
 
-bytes-by : (s : List ℕ) → allOf isByte s ≡ true → Bytes s
+bytes-by : (s : List ℕ) → allOf isByte s ≡ true → AreBytes s
 unfolding allOf isByte
-bytes-by [] h = none
-bytes-by (b ∷ s) h = more (ltb-true b 256 (and-left (isByte b) (allOf isByte s) h)) (bytes-by s (and-right (isByte b) (allOf isByte s) h))
+bytes-by [] h = tt
+bytes-by (b ∷ s) h = (ltb-true b 256 (and-left (isByte b) (allOf isByte s) h), bytes-by s (and-right (isByte b) (allOf isByte s) h))
 
 -- an intent whose symbol's two bytes stand at `first`; its action and its id are one byte
 unfoldable intent : ℕ → ℕ → EventParts
@@ -103,7 +106,7 @@ sample-sound : bookLayout sample ≡ L.Sound
 unfolding opened intent begun twoIntents sample
 sample-sound = refl
 
-sample-bytes : Bytes sample
+sample-bytes : AreBytes sample
 unfolding opened intent begun twoIntents sample isByte
 sample-bytes = bytes-by sample refl
 
@@ -137,8 +140,11 @@ sample-one : OneList (sheetOrders (sheetOf 78)) sampleRounds sample
 unfolding sheetOf roundBy sampleRounds
 sample-one = ((λ p a. refl), ((λ p a. refl), ((λ p a. refl), tt)))
 
+sample-premises : Premises (sheetOrders (sheetOf 78)) sampleRounds sample
+sample-premises = record { bytes = sample-bytes; formed = sample-sound; apart = sample-apart; one = sample-one; small = sample-small }
+
 sample-demand : Demand3 (sheetOrders (sheetOf 78)) sampleRounds sample
-sample-demand = demand3 (sheetOrders (sheetOf 78)) sample-small sampleRounds sample sample-bytes sample-sound sample-apart sample-one
+sample-demand = demand3 .rounds (sheetOrders (sheetOf 78)) sampleRounds sample sample-premises
 
 -- and so the state is that of one uncut round
 unfoldable uncut : Round
@@ -151,20 +157,19 @@ uncut-passes = refl
 
 sample-uncut : Uncut (sheetOrders (sheetOf 78)) sample uncut
 unfolding opened intent begun twoIntents sheetOf roundBy sample uncut
-sample-uncut =
+sample-uncut = record { sheet = refl; list = refl; up = refl; zeros = refl; now = refl; time = refl; whole = refl }
+
+sample-room : Room uncut sample
+unfolding opened intent begun twoIntents sheetOf roundBy sample uncut
+sample-room =
     record {
-      sheet = refl;
-      list = refl;
-      up = refl;
-      zeros = refl;
-      now = refl;
-      time = refl;
-      room = λ h. true≢false (sym uncut-passes ∙ ap done h);
-      whole = refl;
+      records = refl;
+      addendum = leb-true (length (addendumOf uncut sample)) 65536 refl;
+      joined = leb-true (joinedLength sample (addendumOf uncut sample) 2) 65536 refl;
     }
 
 sample-same : sameRecovered (run sampleRounds sample) (next uncut sample) ≡ true
-sample-same = sample-demand .ends (sample-ends .0) uncut sample-uncut
+sample-same = sample-demand .ends (sample-ends .0) uncut sample-uncut (λ h. sample-room)
 
 -- ---- the buffers of a round that is done, and of one refused by 13 once its addendum was written
 unfoldable lentRound : ℕ → Round
@@ -183,19 +188,101 @@ refused-out : (roundOf (lentRound 3) sample .answer ≡ R.TooMany) × (roundLogO
 unfolding opened intent begun twoIntents sheetOf sample lentRound
 refused-out = (refl, refl, refl, refl, refl)
 
--- ---- two symbols that don't parse are both UNKNOWN: after a whole round there are two entries, and one intent is open
+-- ---- a round that is not refused and in which queries were answered, cut before its first entry: it leaves as many open
+cut-after : (answered (roundBy 78 (0 ∷ 0 ∷ []) 0) sample ≡ true) × (passes (roundBy 78 (0 ∷ 0 ∷ []) 0) sample ≡ true)
+    × (openIntents (next (roundBy 78 (0 ∷ 0 ∷ []) 0) sample) ≡ 2)
+unfolding opened intent begun twoIntents sheetOf roundBy sample
+cut-after = (refl, refl, refl)
+
+-- ---- an uncut round without room for the joined log is refused by 3, and leaves both open
+full-after : (roundOf (roundWith (sheetOf 78) (0 ∷ 0 ∷ []) (pos 7) (pos 9) 2 192 32 600 2318) sample .answer ≡ R.NoRoom)
+    × (openIntents (next (roundWith (sheetOf 78) (0 ∷ 0 ∷ []) (pos 7) (pos 9) 2 192 32 600 2318) sample) ≡ 2)
+unfolding opened intent begun twoIntents sheetOf sample
+full-after = (refl, refl)
+
+-- ---- without "a well-formed log" the claim is false: a log without its last byte is refused by 2, and stays as it is
+unfoldable torn : List ℕ
+unfolding sample
+torn = take 1804 sample
+
+torn-after : (length sample ≡ 1805) × (bookLayout torn ≡ L.Broken) × (roundOf (roundBy 78 (0 ∷ 0 ∷ []) 2) torn .answer ≡ R.Broken)
+unfolding opened intent begun twoIntents sheetOf roundBy sample torn
+torn-after = (refl, refl, refl)
+
+torn-bytes : AreBytes torn
+unfolding opened intent begun twoIntents sample torn isByte
+torn-bytes = bytes-by torn refl
+
+torn-apart : NoRepeat (recovered torn .orders)
+unfolding opened intent begun twoIntents sample torn
+torn-apart = (refl, tt)
+
+needs-formed :
+    ((broker : List BrokerOrderStatus) (rs : List Round) (log : List ℕ) → AreBytes log → NoRepeat (recovered log .orders) → OneList broker rs log
+    → Small (chosen broker) → Demand3 broker rs log)
+    → ⊥
+unfolding run
+needs-formed claim =
+    let d = claim (sheetOrders (sheetOf 78)) [] torn torn-bytes torn-apart tt sample-small in
+    let e : L.Broken ≡ L.Sound = sym (torn-after .1) ∙ d .formed in
+    let z : _≡_ {A = ℕ} 0 1 = cc in
+    omega arith
+
+-- ---- without "all show one list" the claim is false: answered queries show two lists, none is open, and the state is that of neither list's uncut round
+unfoldable twoLists : List Round
+unfolding opened roundBy
+twoLists = roundBy 78 (0 ∷ 0 ∷ []) 1 ∷ roundBy 79 (0 ∷ []) 1 ∷ []
+
+lists-after : (openIntents (run twoLists sample) ≡ 0) × (sameRecovered (run twoLists sample) (next uncut sample) ≡ false)
+    × (sameRecovered (run twoLists sample) (next (roundBy 79 (0 ∷ 0 ∷ []) 2) sample) ≡ false)
+unfolding opened intent begun twoIntents sheetOf roundBy sample uncut twoLists samePair sameMarks sameTexts sameOrder samePosition sameLists sameState sameRecovered toSigned
+lists-after = (refl, refl, refl)
+
+needs-one :
+    ((broker : List BrokerOrderStatus) (rs : List Round) (log : List ℕ) → AreBytes log → bookLayout log ≡ L.Sound → NoRepeat (recovered log .orders)
+    → Small (chosen broker) → Demand3 broker rs log)
+    → ⊥
+needs-one claim =
+    let d = claim (sheetOrders (sheetOf 78)) twoLists sample sample-bytes sample-sound sample-apart sample-small in
+    true≢false (sym (d .ends (lists-after .0) uncut sample-uncut (λ h. sample-room)) ∙ lists-after .1)
+
+-- ---- without "repeat no symbol" the claim is false: two symbols that don't parse are both UNKNOWN, and after a whole round there are two entries and one
+-- intent is open
 unfoldable unparsed : List ℕ
 unfolding opened twoIntents
 unparsed = twoIntents (ascii "abcd")
+
+unfoldable wholeRound : List Round
+unfolding roundBy
+wholeRound = roundBy 78 (0 ∷ 0 ∷ []) 2 ∷ []
 
 unparsed-open : openIntents unparsed ≡ 2
 unfolding opened intent begun twoIntents unparsed
 unparsed-open = refl
 
-unparsed-after :
-    (openIntents (next (roundBy 78 (0 ∷ 0 ∷ []) 2) unparsed) ≡ 1) × (length (added unparsed (next (roundBy 78 (0 ∷ 0 ∷ []) 2) unparsed)) ≡ 2)
-unfolding opened intent begun twoIntents sheetOf roundBy unparsed
+unparsed-after : (openIntents (run wholeRound unparsed) ≡ 1) × (length (added unparsed (run wholeRound unparsed)) ≡ 2)
+unfolding opened intent begun twoIntents sheetOf roundBy unparsed wholeRound
 unparsed-after = (refl, refl)
+
+unparsed-bytes : AreBytes unparsed
+unfolding opened intent begun twoIntents unparsed isByte
+unparsed-bytes = bytes-by unparsed refl
+
+unparsed-sound : bookLayout unparsed ≡ L.Sound
+unfolding opened intent begun twoIntents unparsed
+unparsed-sound = refl
+
+unparsed-one : OneList (sheetOrders (sheetOf 78)) wholeRound unparsed
+unfolding sheetOf roundBy wholeRound
+unparsed-one = ((λ p a. refl), tt)
+
+needs-apart :
+    ((broker : List BrokerOrderStatus) (rs : List Round) (log : List ℕ) → AreBytes log → bookLayout log ≡ L.Sound → OneList broker rs log
+    → Small (chosen broker) → Demand3 broker rs log)
+    → ⊥
+needs-apart claim =
+    let d = claim (sheetOrders (sheetOf 78)) wholeRound unparsed unparsed-bytes unparsed-sound unparsed-one sample-small in
+    omega (arith, d .total, unparsed-after .0, unparsed-after .1, unparsed-open)
 
 -- ---- an order's row that doesn't parse, before one intent that doesn't: the entry goes to the row, and the intent stays open
 unfoldable mixed : List ℕ
@@ -214,8 +301,28 @@ mixed-after :
 unfolding opened intent begun sheetOf roundBy mixed
 mixed-after = (refl, refl)
 
--- ---- an OrderId of 2^63 is written as a cell that no i64 is read from: a round written whole, in which a query was answered, leaves as many open
-large-after : (answered (roundBy (2 ^ 63) (0 ∷ []) 1) sample ≡ true) × (passes (roundBy (2 ^ 63) (0 ∷ []) 1) sample ≡ true)
-    × (openIntents (next (roundBy (2 ^ 63) (0 ∷ []) 1) sample) ≡ 2)
-unfolding opened intent begun twoIntents sheetOf roundBy sample
+-- ---- without "numbered at most 2^63 - 1" the claim is false: an OrderId of 2^63 is written as a cell that no i64 is read from, so a round written whole, in
+-- which a query was answered, leaves as many open
+unfoldable largeRound : Round
+unfolding roundBy
+largeRound = roundBy (2 ^ 63) (0 ∷ []) 1
+
+large-after : (answered largeRound sample ≡ true) × (passes largeRound sample ≡ true) × (openIntents (next largeRound sample) ≡ 2)
+unfolding opened intent begun twoIntents sheetOf roundBy sample largeRound
 large-after = (refl, refl, refl)
+
+large-whole : Whole largeRound sample
+unfolding opened intent begun twoIntents sheetOf roundBy sample largeRound
+large-whole = refl
+
+large-one : OneList (sheetOrders (sheetOf (2 ^ 63))) (largeRound ∷ []) sample
+unfolding sheetOf roundBy largeRound
+large-one = ((λ p a. refl), tt)
+
+needs-small :
+    ((broker : List BrokerOrderStatus) (rs : List Round) (log : List ℕ) → AreBytes log → bookLayout log ≡ L.Sound → NoRepeat (recovered log .orders)
+    → OneList broker rs log → Demand3 broker rs log)
+    → ⊥
+needs-small claim =
+    let d = claim (sheetOrders (sheetOf (2 ^ 63))) (largeRound ∷ []) sample sample-bytes sample-sound sample-apart large-one in
+    omega (arith, d .fewer .0 (large-after .1) large-whole (large-after .0), large-after .2, sample-open)

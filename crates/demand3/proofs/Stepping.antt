@@ -146,7 +146,7 @@ marks-self m =
     (pair-self (m .cancel)))
     (truth-self (m .cancelfailed))
 
-marks-timeless : (m n : Marks) → sameMarks (timeless m) (timeless n) ≡ sameMarks m n
+pub marks-timeless : (m n : Marks) → sameMarks (timeless m) (timeless n) ≡ sameMarks m n
 unfolding sameMarks
 marks-timeless m n = refl
 

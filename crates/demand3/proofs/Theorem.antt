@@ -1,67 +1,48 @@
--- Demand 3, of every list of rounds. About no function.
+-- Demand 3, of every list of rounds: the proof of `Claim`. About no function.
 -- Assumes nothing.
-use Prim.Native.Nat.{ℕ, zero, suc, _+_, _-_, _*_, _^_, _≤_, _<_}
-use mathlib.Core.Path.{_≡_, refl, sym, ap, _∙_, subst}
-use mathlib.Core.Logic.{inl, inr}
+use Prim.Native.Nat.{ℕ, _+_, _≤_, _<_}
+use mathlib.Core.Path.{_≡_, sym, ap, _∙_, subst}
 use mathlib.Core.List.{List, [], _∷_, _++_, map}
-use mathlib.Core.Bool.{Bool, true, false, _||_, true≢false}
+use mathlib.Core.Bool.{true}
 use native.Mathlib.Omega.{arith}
-use lib.Dec.{ltb}
-use lib.IntN.{pos}
-use lib.ListN.{length, take, drop, length-append}
+use lib.IntN.{ℤ, pos}
+use lib.ListN.{length, take, drop}
 use lib.Seq.{take-append-seam, drop-append-seam}
-use borrow.Author.Tests.{ltb-false, le-ltb, lt-ltb, lt-leb}
-use Rattle.wire.specs.Layout.{oversizeIf, brokenIf, soundIf}
-use Rattle.wire.specs.declared.layout.Layout.{Layout}
 use Rattle.wire.specs.declared.layout.Layout.the-variants as L
-use Rattle.wire.proofs.Written.{Bytes}
+use Rattle.wire.proofs.Written.{Bytes, none, more}
 use Rattle.wire.proofs.Records.{Each}
-use Rattle.book.specs.Layout.{bookLayout, eventCount, rowCount, textLength, partsOk}
+use Rattle.book.specs.Layout.{bookLayout}
 use Rattle.book.specs.Event.{textOf}
 use Rattle.sheet.specs.declared.BrokerOrderStatus.{BrokerOrderStatus}
 use Rattle.records.specs.Record.{flagsOf}
 use Rattle.records.specs.Search.{isIntent, countWhere}
 use Rattle.records.specs.declared.order.Order.{Order}
 use Rattle.effects.specs.Event.{Event, eventsOf}
-use Rattle.recovery.specs.Recover.{firstState, roomy}
-use Rattle.book.proofs.Sound.{sound-counts, sound-size}
-use Rattle.state.specs.State.{sameOrder, sameLists, sameState}
-use Rattle.intents.specs.Intents.{chosen, reached, addendum, entryTexts, ordersMost}
-use Rattle.intents.specs.declared.Chosen.{Chosen}
-use Rattle.join.specs.Join.{joined, joinedLength, tooLarge}
-use Rattle.rounds.specs.Rounds.{Round, Outcome, joinRound, roundOf, next, run, done}
-use Rattle.rounds.proofs.Answers.{by-bool, Joinable, Third, third-addendum, round-refused}
-use Rattle.demand3.specs.Demand3.{recovered, openIntents, NoRepeat, lastNumber, added, isEntry, Follow, passes, Small, OneList, Fewer, Uncut, sameRecovered, Demand3}
-use Rattle.demand3.proofs.Settling.{Written, written-length, written-follow}
-use Rattle.demand3.proofs.Progress.{Prog, prog-distinct, weight-none, among-weight, reached-all, tally, tally-one, written-hits, textWeight, texts-length}
+use Rattle.marks.specs.declared.Marks.{Marks}
+use Rattle.recovery.specs.Recover.{firstState, stateOf}
+use Rattle.state.specs.State.{sameMarks, sameOrder, sameLists, sameState}
+use Rattle.state.specs.declared.Equality.the-variants as E
 use Rattle.sound_state.proofs.Tables.{and-both, each-map}
 use Rattle.sound_state.proofs.Tabled.{text-length}
 use Rattle.sound_state.proofs.Good.{RefsIn}
 use Rattle.sound_state.proofs.GoodBook.{state-good}
-use Rattle.sound_state.proofs.Recovered.{timeless}
+use Rattle.sound_state.proofs.Recovered.{timeless, time-apart}
+use Rattle.sound_state.proofs.StateSound.{states-compared}
+use Rattle.intents.specs.Intents.{chosen}
+use Rattle.intents.specs.declared.Chosen.{Chosen}
+use Rattle.rounds.specs.Rounds.{Round, roundOf, next, run}
+use Rattle.rounds.specs.declared.Rounded.the-variants.{NoRoom}
+use Rattle.demand3.specs.Demand3.{recovered, openIntents, NoRepeat, lastNumber, added, isEntry, OfIntents, Follow, Small, OneList, Fewer, Uncut, Room, sameRecovered, Demand3}
+use Rattle.demand3.specs.Claim.{AreBytes, Premises, equalAnswer, Claim}
+use Rattle.demand3.proofs.Settling.{Written, written-length, written-follow}
+use Rattle.demand3.proofs.Progress.{Prog, prog-distinct, tally, tally-one, written-hits}
 use Rattle.demand3.proofs.Ending.{ends-same, ends-flags}
-use Rattle.demand3.proofs.Stepping.{steps-number, noted, marks-same, positions-self}
+use Rattle.demand3.proofs.Stepping.{steps-number, noted, marks-timeless, marks-same, positions-self}
 use Rattle.demand3.proofs.Accepted.{book-accepted}
-use Rattle.demand3.proofs.Calls.{roundSymbols, roundAddendum, First, first-full, first-is, Askable, Second, second-full, third-full, third-done, stages}
-use Rattle.demand3.proofs.AddendumBook.{length-addendum}
-use Rattle.demand3.proofs.EntriesJoined.{add-sound, add-entries, add-no-rows, add-texts}
-use Rattle.demand3.proofs.Leading.{Led, led-marks, led-positions, led-total, led-count, led-refl, led-trans}
-use Rattle.demand3.proofs.OneRound.{Shows, chosenAddendum, addendum-same, reached-open, entered, next-count, whole-count, led-next, round-fewer}
-
--- ---- a sound book is not too large
-size-by : (a : Bool) (l : Layout) → oversizeIf a l ≡ L.Sound → a ≡ false
-size-by true l h = let z : _≡_ {A = ℕ} 0 1 = cc in absurd (omega arith)
-size-by false l h = refl
-
-sound-most : (s : List ℕ) → bookLayout s ≡ L.Sound → length s ≤ 1048576
-unfolding bookLayout
-sound-most s h =
-    ltb-false 1048576 (length s)
-    (size-by (ltb 1048576 (length s))
-    (brokenIf (ltb (length s) 24) (oversizeIf (ltb 4096 (eventCount s) || ltb 4096 (rowCount s)) (soundIf (partsOk s)))) h)
-
-not-large : (len events rows : ℕ) → len ≤ 1048576 → events ≤ 4096 → rows ≤ 4096 → tooLarge len events rows ≡ false
-not-large len events rows a b c = rw (le-ltb 1048576 len a, le-ltb 4096 events b, le-ltb 4096 rows c)
+use Rattle.demand3.proofs.Leading.{Led, led-marks, led-positions, led-total, led-refl, led-trans}
+use Rattle.demand3.proofs.OfIntents.{written-of}
+use Rattle.demand3.proofs.OneRound.{led-next, round-fewer}
+use Rattle.demand3.proofs.Uncut.{uncut-room, uncut-led, uncut-shut, uncut-exists}
 
 -- ---- two ways to the end agree
 ends-read : {c : Chosen} (s t u v w : List ℕ) {os ps qs : List Order} → v ≡ s ++ t → w ≡ s ++ u → Each (RefsIn (length s)) os → Prog c v os ps → Prog c w os qs
@@ -83,18 +64,6 @@ led-same {c} {x} {y} {z} b s l m p q =
     (ends-read (textOf x) (l .texts) (m .texts) (textOf y) (textOf z) (l .text) (m .text) refs (l .prog) (m .prog) p q))
     (rw positions (positions-self (recovered y .positions)))
 
-surely : (b : Bool) → (b ≡ false → ⊥) → b ≡ true
-surely true h = refl
-surely false h = absurd (h refl)
-
-never : (b : Bool) → (b ≡ true → ⊥) → b ≡ false
-never true h = absurd (h refl)
-never false h = refl
-
-by-zero : (n : ℕ) → (0 < n → ⊥) → n ≡ 0
-by-zero zero h = refl
-by-zero (suc n) h = absurd (h (omega arith))
-
 -- ---- every list of rounds
 module _ (broker : List BrokerOrderStatus) (small : Small (chosen broker)) where
   led-run : (rs : List Round) (x : List ℕ) → Bytes x → bookLayout x ≡ L.Sound → NoRepeat (recovered x .orders) → OneList broker rs x
@@ -111,133 +80,81 @@ module _ (broker : List BrokerOrderStatus) (small : Small (chosen broker)) where
       let l = led-next broker small r x bx sx d (one .0) in
       (round-fewer broker small r x bx sx d (one .0), run-fewer rs (next r x) (l .bytes) (l .sound) (prog-distinct (l .prog) d) (one .1))
 
-  -- ---- the uncut round, once some list of rounds left none open
-  module _ (x : List ℕ) (bx : Bytes x) (sx : bookLayout x ≡ L.Sound) (u : Round) (c : Uncut broker x u) where
-    shows : Shows broker u x
-    shows a = c .list
+-- ---- the premises
+pub bytes-of : (s : List ℕ) → AreBytes s → Bytes s
+bytes-of [] h = none
+bytes-of (b ∷ s) h = more (h .0) (bytes-of s (h .1))
 
-    uncut-reached : length (roundSymbols u x) ≡ openIntents x
-    uncut-reached =
-        ap (λ (b : Bool). length (reached b (recovered x .orders) (u .queries))) (c .up)
-        ∙ ap (λ (qs : List ℕ). length (reached false (recovered x .orders) qs)) (c .zeros) ∙ reached-all (recovered x .orders) (openIntents x) refl
+module _ (broker : List BrokerOrderStatus) (rs : List Round) (log : List ℕ) (p : Premises broker rs log) where
+  led : Led (chosen broker) log (run rs log)
+  led = led-run broker (p .small) rs log (bytes-of log (p .bytes)) (p .formed) (p .apart) (p .one)
 
-    -- its texts are no longer than those of a list of rounds that closed all
-    uncut-texts : {y : List ℕ} (l : Led (chosen broker) x y) → openIntents y ≡ 0
-        → textLength x + length (entryTexts (chosen broker) (roundSymbols u x)) ≤ textLength y
-    uncut-texts {y} l e =
-        let w = textWeight (chosen broker) in
-        omega (
-          arith,
-          texts-length (chosen broker) (roundSymbols u x),
-          among-weight w (reached-open u x),
-          l .weight w,
-          weight-none w (recovered y .orders) e,
-          l .enough,
-          text-length x sx,
-          text-length y (l .sound),
-          ap length (l .text),
-          length-append (textOf x) (l .texts),
-        )
+  added-is : added log (run rs log) ≡ led .entries
+  unfolding led
+  added-is = ap (drop (length (eventsOf log))) (led .events) ∙ drop-append-seam (eventsOf log) (led .entries)
 
-    -- so it is not refused, where something was open
-    uncut-ok : {y : List ℕ} → Led (chosen broker) x y → openIntents y ≡ 0 → 0 < openIntents x → passes u x ≡ true
-    uncut-ok {y} l e h =
-        let p : (recovered x .marks .number + 1 + openIntents x < 2 ^ 64) × (64 * length (recovered x .orders) < ordersMost) =
-        elim (l .space) [ inl n ↦ absurd (omega (arith, led-total l)) | inr p ↦ p ] in
-        let b = chosenAddendum broker u x in
-        let same = addendum-same broker u x shows in
-        let ne : eventCount y ≡ eventCount x + openIntents x = led-count l ∙ omega (arith, led-total l) in
-        let nb = length-addendum (chosen broker) (u .time) (recovered x .marks .number) (roundSymbols u x) in
-        let ny = sound-size y (l .sound) in
-        let sy = sound-most y (l .sound) in
-        let ky = sound-counts y (l .sound) in
-        let ty = uncut-texts l e in
-        let nr = uncut-reached in
-        let ry = l .rows in
-        let lb : length b ≤ 1048576 = omega arith in
-        let f : First u x =
-        record {
-          now = c .now;
-          room = surely (roomy (u .orders) (u .positions) (firstState (u .now)) (eventsOf x)) (λ n. c .room (first-full u x sx (c .now) n));
-        } in
-        let a : Askable u x =
-        record {
-          few = lt-leb ordersMost (64 * length (recovered x .orders)) (p .1);
-          sheet = c .sheet;
-          time = c .time;
-          numbers = lt-ltb (recovered x .marks .number + 1 + openIntents x) (2 ^ 64) (p .0);
-          size =
-              subst (λ (a : List ℕ). tooLarge (length a) (length (roundSymbols u x)) 0 ≡ false) (sym same)
-              (not-large (length b) (length (roundSymbols u x)) 0 lb (omega arith) (omega arith));
-        } in
-        let q : Second u x =
-        record {
-          askable = a;
-          room =
-              never (ltb (u .addendum) (length (roundAddendum u x)))
-              (λ n. c .room (ap (λ (o : Outcome). o .answer) (first-is u x sx f) ∙ second-full u x bx sx f a n));
-        } in
-        let is : roundOf u x ≡ joinRound u x b = stages u x bx sx f q ∙ ap (joinRound u x) same in
-        let en = entered broker small u x bx sx shows a in
-        let k : u .k ≡ eventCount b = c .whole ∙ ap (λ (o : Outcome). eventCount (o .addendum)) is ∙ ap eventCount (third-addendum u x b) in
-        let nc = add-entries en in
-        let rc = add-no-rows en in
-        let tc = add-texts en in
-        let lj : joinedLength x b (u .k) ≤ 1048576 = omega arith in
-        let j : Joinable u x b =
-        record {
-          sound = add-sound en;
-          count = le-ltb (eventCount b) (u .k) (omega arith);
-          size = not-large (joinedLength x b (u .k)) (eventCount x + u .k) (rowCount x + rowCount b) lj (omega arith) (omega arith);
-        } in
-        let t : Third u x b =
-        record {
-          joinable = j;
-          room = never (ltb (u .joined) (joinedLength x b (u .k))) (λ n. c .room (ap (λ (o : Outcome). o .answer) is ∙ third-full u x b sx j n));
-        } in
-        ap (λ (o : Outcome). done (o .answer)) is ∙ third-done u x b sx t
+  written : Written (chosen broker) (textOf (run rs log)) (lastNumber 0 (eventsOf log)) (led .symbols) (led .entries)
+  written =
+      subst (λ (n : ℕ). Written (chosen broker) (textOf (run rs log)) n (led .symbols) (led .entries)) (steps-number (firstState (pos 0)) (eventsOf log))
+      (led .written)
 
-    -- refused or not, it leaves none open
-    uncut-led : NoRepeat (recovered x .orders) → Led (chosen broker) x (next u x)
-    uncut-led d = led-next broker small u x bx sx d (λ h. shows)
+  -- ---- the conclusions
+  of-rounds : Demand3 broker rs log
+  of-rounds =
+      let b = bytes-of log (p .bytes) in
+      record {
+        formed = led .sound;
+        kept = ap (take (length (eventsOf log))) (led .events) ∙ take-append-seam (eventsOf log) (led .entries);
+        accepted = λ h. book-accepted log (run rs log) (p .formed) (led .sound) (led .events) written h;
+        once = λ y.
+            subst (λ (es : List Event). countWhere (isEntry y) es ≤ 1) (sym added-is)
+            (omega (arith, written-hits y (led .texted) (led .written), led .weight (tally y), tally-one y (recovered log .orders) (p .apart)));
+        entries =
+            subst (OfIntents (recovered log .orders)) (sym added-is)
+            (written-of (recovered log .orders) (λ z. omega (arith, led .weight (tally z))) (led .texted) (led .written));
+        total =
+            subst (λ (es : List Event). length es + openIntents (run rs log) ≡ openIntents log) (sym added-is)
+            (omega (arith, written-length (led .written), led-total led));
+        numbers = subst (Follow (lastNumber 0 (eventsOf log))) (sym added-is) (written-follow written);
+        fewer = run-fewer broker (p .small) rs log b (p .formed) (p .apart) (p .one);
+        ends = λ e u c m.
+            led-same b (p .formed) led (uncut-led broker (p .small) log b (p .formed) u c (p .apart)) e
+            (uncut-shut broker (p .small) log b (p .formed) u c (p .apart) led e m);
+      }
 
-    uncut-shut : {y : List ℕ} → NoRepeat (recovered x .orders) → Led (chosen broker) x y → openIntents y ≡ 0 → openIntents (next u x) ≡ 0
-    uncut-shut {y} d l e =
-        let m = uncut-led d in
-        by-bool (passes u x)
-        (λ h.
-        let n = next-count broker small u x bx sx shows h in
-        let k = whole-count broker small u x bx sx shows h (c .whole) in
-        omega (arith, led-total m, led-count m, uncut-reached))
-        (λ h. ap openIntents (round-refused u x h) ∙ by-zero (openIntents x) (λ z. true≢false (sym (uncut-ok l e z) ∙ h)))
+  module _ (e : openIntents (run rs log) ≡ 0) (u : Round) (c : Uncut broker log u) where
+    -- unless the uncut round is refused by 3, it has the room that `ends` asks for
+    pub unless-full : (roundOf u log .answer ≡ NoRoom → ⊥) → 0 < openIntents log → Room u log
+    unless-full = uncut-room broker (p .small) log (bytes-of log (p .bytes)) (p .formed) u c led e
+
+    -- the orders agree in the finer meaning too, which reads all five flags of each
+    pub ends-finer : (0 < openIntents log → Room u log) → map flagsOf (recovered (run rs log) .orders) ≡ map flagsOf (recovered (next u log) .orders)
+    ends-finer m =
+        let b = bytes-of log (p .bytes) in
+        ends-flags (led .prog) (uncut-led broker (p .small) log b (p .formed) u c (p .apart) .prog) e
+        (uncut-shut broker (p .small) log b (p .formed) u c (p .apart) led e m)
+
+-- ---- equality of recovered states is the entry's answer
+same-whenever : (a b : List ℕ) (now then : ℤ)
+    → sameState (textOf a) (textOf b) (stateOf a now .marks) (stateOf b then .marks) (stateOf a now .orders) (stateOf b then .orders)
+    (stateOf a now .positions) (stateOf b then .positions)
+    ≡ sameRecovered a b
+unfolding sameState sameRecovered
+same-whenever a b now then =
+    let x = time-apart a now (pos 0) in
+    let y = time-apart b then (pos 0) in
+    let m : sameMarks (stateOf a now .marks) (stateOf b then .marks) ≡ sameMarks (recovered a .marks) (recovered b .marks) =
+    sym (marks-timeless (stateOf a now .marks) (stateOf b then .marks))
+    ∙ ap (λ (v : Marks). sameMarks v (timeless (stateOf b then .marks))) (x .marks)
+    ∙ ap (sameMarks (timeless (recovered a .marks))) (y .marks)
+    ∙ marks-timeless (recovered a .marks) (recovered b .marks) in
+    rw (m, x .orders, y .orders, x .positions, y .positions)
+
+pub recovered-equal : (a b : List ℕ) → AreBytes a → AreBytes b → bookLayout a ≡ L.Sound → bookLayout b ≡ L.Sound → (now then : ℤ)
+    → equalAnswer a (stateOf a now) b (stateOf b then) ≡ E.Is (sameRecovered a b)
+recovered-equal a b p q s t now then =
+    states-compared a b now then (bytes-of a p) (bytes-of b q) s t ∙ ap E.Is (same-whenever a b now then)
 
 -- ---- the theorem
-pub demand3 : (broker : List BrokerOrderStatus) → Small (chosen broker) → (rs : List Round) (log : List ℕ) → Bytes log → bookLayout log ≡ L.Sound
-    → NoRepeat (recovered log .orders) → OneList broker rs log → Demand3 broker rs log
-demand3 broker small rs log b s d one =
-    let l = led-run broker small rs log b s d one in
-    let ad : added log (run rs log) ≡ l .entries = ap (drop (length (eventsOf log))) (l .events) ∙ drop-append-seam (eventsOf log) (l .entries) in
-    let w : Written (chosen broker) (textOf (run rs log)) (lastNumber 0 (eventsOf log)) (l .symbols) (l .entries) =
-    subst (λ (n : ℕ). Written (chosen broker) (textOf (run rs log)) n (l .symbols) (l .entries)) (steps-number (firstState (pos 0)) (eventsOf log)) (l .written) in
-    record {
-      formed = l .sound;
-      kept = ap (take (length (eventsOf log))) (l .events) ∙ take-append-seam (eventsOf log) (l .entries);
-      accepted = λ h. book-accepted log (run rs log) s (l .sound) (l .events) w h;
-      once = λ y.
-          subst (λ (es : List Event). countWhere (isEntry y) es ≤ 1) (sym ad)
-          (omega (arith, written-hits y (l .texted) (l .written), l .weight (tally y), tally-one y (recovered log .orders) d));
-      total =
-          subst (λ (es : List Event). length es + openIntents (run rs log) ≡ openIntents log) (sym ad)
-          (omega (arith, written-length (l .written), led-total l));
-      numbers = subst (Follow (lastNumber 0 (eventsOf log))) (sym ad) (written-follow w);
-      fewer = run-fewer broker small rs log b s d one;
-      ends = λ e u c. led-same b s l (uncut-led broker small log b s u c d) e (uncut-shut broker small log b s u c d l e);
-    }
-
--- in the finer meaning too, which reads all five flags of each order
-pub ends-finer : (broker : List BrokerOrderStatus) → Small (chosen broker) → (rs : List Round) (log : List ℕ) → Bytes log → bookLayout log ≡ L.Sound
-    → NoRepeat (recovered log .orders) → OneList broker rs log → openIntents (run rs log) ≡ 0 → (u : Round) → Uncut broker log u
-    → map flagsOf (recovered (run rs log) .orders) ≡ map flagsOf (recovered (next u log) .orders)
-ends-finer broker small rs log b s d one e u c =
-    let l = led-run broker small rs log b s d one in
-    ends-flags (l .prog) (uncut-led broker small log b s u c d .prog) e (uncut-shut broker small log b s u c d l e)
+pub demand3 : Claim
+demand3 = record { rounds = of-rounds; uncut = uncut-exists; equal = recovered-equal }

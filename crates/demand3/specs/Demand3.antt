@@ -1,12 +1,12 @@
--- Demand 3, claimed once, of every list of rounds: its hypotheses and its conclusions, in the mission's words.
+-- The words of demand 3 and its conclusions about a list of rounds. Claim.antt has the premises and the claim.
 -- Assumes nothing.
 use Prim.Native.Nat.{ℕ, suc, _^_, _≤_, _<_, _+_}
 use mathlib.Core.Path.{_≡_}
 use mathlib.Core.List.{List, [], _∷_}
-use mathlib.Core.Bool.{Bool, true, false, not}
+use mathlib.Core.Bool.{Bool, true, false, _&&_}
 use mathlib.Core.Option.{Option, none, some}
 use lib.Dec.{ltb}
-use lib.IntN.{ℤ, pos}
+use lib.IntN.{pos}
 use lib.ListN.{length, take, drop, replicate}
 use Rattle.wire.specs.declared.layout.Layout.the-variants as L
 use Rattle.symbol.specs.Symbol.{sameSymbol, symbolIs}
@@ -26,13 +26,13 @@ use Rattle.effects.specs.Event.{Event, eventsOf}
 use Rattle.audit.specs.Verdict.{bookVerdict}
 use Rattle.audit.specs.declared.validate.Verdict.the-variants as Ver
 use Rattle.book.specs.Time.{timeLayout}
-use Rattle.recovery.specs.Recover.{State, stateOf}
+use Rattle.recovery.specs.Recover.{State, firstState, roomy, stateOf}
 use Rattle.state.specs.State.{sameState}
-use Rattle.intents.specs.Intents.{reached, chosen}
+use Rattle.intents.specs.Intents.{reached, chosen, addendum}
 use Rattle.intents.specs.declared.Chosen.{Chosen}
 use Rattle.intents.specs.declared.Chosen.the-variants as C
+use Rattle.join.specs.Join.{joinedLength}
 use Rattle.rounds.specs.Rounds.{Round, roundOf, next, run, done}
-use Rattle.rounds.specs.declared.Rounded.the-variants.{NoRoom}
 
 -- ---- recovered, with room for all records; the time is left out of every comparison below
 abbrev pub recovered : List ℕ → State
@@ -70,12 +70,27 @@ isText y (some t) = symbolIs y t
 abbrev pub isEntry : Symbol → Event → Bool
 isEntry y e = isText y (e .symbol)
 
+-- each of these events is the entry of an intent among the orders
+abbrev pub ofIntent : List Order → Event → Bool
+ofIntent os e = anyWhere (λ (o : Order). isIntent o && isEntry (o .symbol) e) os
+
+abbrev pub OfIntents : List Order → List Event → Type 0
+OfIntents os [] = Unit
+OfIntents os (e ∷ es) = (ofIntent os e ≡ true) × OfIntents os es
+
 -- numbers that follow n without a gap
 abbrev pub Follow : ℕ → List Event → Type 0
 Follow n [] = Unit
 Follow n (e ∷ es) = (e .number ≡ N.Is (suc n)) × Follow (suc n) es
 
--- ---- a round that is not refused; that is written whole; in which an open intent's query was answered
+-- ---- a round: the symbols of the open intents whose queries were answered, and the addendum B of their entries
+abbrev pub reachedBy : Round → List ℕ → List Symbol
+reachedBy r log = reached (ordersFailed (r .sheet)) (recovered log .orders) (r .queries)
+
+abbrev pub addendumOf : Round → List ℕ → List ℕ
+addendumOf r log = addendum (chosen (sheetOrders (r .sheet))) (r .time) (recovered log .marks .number) (reachedBy r log)
+
+-- it is not refused; it is written whole; an open intent's query was answered
 abbrev pub passes : Round → List ℕ → Bool
 passes r log = done (roundOf r log .answer)
 
@@ -83,7 +98,7 @@ abbrev pub Whole : Round → List ℕ → Type 0
 Whole r log = r .k ≡ eventCount (roundOf r log .addendum)
 
 abbrev pub answered : Round → List ℕ → Bool
-answered r log = ltb 0 (length (reached (ordersFailed (r .sheet)) (recovered log .orders) (r .queries)))
+answered r log = ltb 0 (length (reachedBy r log))
 
 -- ---- the broker: answered queries all show one list, its first order with quantity remaining, if any, numbered at most 2^63 - 1
 abbrev pub Small : Chosen → Type 0
@@ -100,7 +115,7 @@ Fewer [] log = Unit
 Fewer (r ∷ rs) log =
     (passes r log ≡ true → Whole r log → answered r log ≡ true → openIntents (next r log) < openIntents log) × Fewer rs (next r log)
 
--- ---- the uncut round joins all of B, with room, valid times, the broker's list and a 0 for each intent
+-- ---- the uncut round joins all of B, with valid times, the broker's list and a 0 for each intent; all of it is said of what the round is given
 pub record Uncut (broker : List BrokerOrderStatus) (log : List ℕ) (u : Round) : Type 0 where
   pub sheet : sheetLayout (u .sheet) ≡ L.Sound
   pub list : sheetOrders (u .sheet) ≡ broker
@@ -108,9 +123,13 @@ pub record Uncut (broker : List BrokerOrderStatus) (log : List ℕ) (u : Round) 
   pub zeros : u .queries ≡ replicate (openIntents log) 0
   pub now : timeLayout (u .now) ≡ L.Sound
   pub time : timeLayout (u .time) ≡ L.Sound
-  -- whatever room it has, refusal 3 is not its answer
-  pub room : roundOf u log .answer ≡ NoRoom → ⊥
-  pub whole : Whole u log
+  pub whole : u .k ≡ openIntents log
+
+-- with room: for all records after each event, for B, and for the log with the first k of B's entries
+pub record Room (u : Round) (log : List ℕ) : Type 0 where
+  pub records : roomy (u .orders) (u .positions) (firstState (u .now)) (eventsOf log) ≡ true
+  pub addendum : length (addendumOf u log) ≤ u .addendum
+  pub joined : joinedLength log (addendumOf u log) (u .k) ≤ u .joined
 
 -- two logs recover to equal states
 unfoldable pub sameRecovered : List ℕ → List ℕ → Bool
@@ -119,7 +138,7 @@ sameRecovered a b =
     sameState (textOf a) (textOf b) (recovered a .marks) (recovered b .marks) (recovered a .orders) (recovered b .orders)
     (recovered a .positions) (recovered b .positions)
 
--- ---- the conclusions, at the end of a list of rounds that began on `log`
+-- ---- the conclusions, where a list of rounds began on `log` and ended
 pub record Demand3 (broker : List BrokerOrderStatus) (rs : List Round) (log : List ℕ) : Type 0 where
   -- the log is well formed, and begins with the first log's events
   pub formed : bookLayout (run rs log) ≡ L.Sound
@@ -128,10 +147,13 @@ pub record Demand3 (broker : List BrokerOrderStatus) (rs : List Round) (log : Li
   pub accepted : bookVerdict log ≡ Ver.Accepted → bookVerdict (run rs log) ≡ Ver.Accepted
   -- no intent has two entries
   pub once : (y : Symbol) → countWhere (isEntry y) (added log (run rs log)) ≤ 1
+  -- each entry is that of an intent open at first
+  pub entries : OfIntents (recovered log .orders) (added log (run rs log))
   -- entries and intents still open add up to the intents open at first
   pub total : length (added log (run rs log)) + openIntents (run rs log) ≡ openIntents log
   -- the entries' numbers follow the first log's last checkpoint's without a gap
   pub numbers : Follow (lastNumber 0 (eventsOf log)) (added log (run rs log))
   pub fewer : Fewer rs log
-  -- when none is open, the recovered state equals, except its time, that of one uncut round without failures from the first log
-  pub ends : openIntents (run rs log) ≡ 0 → (u : Round) → Uncut broker log u → sameRecovered (run rs log) (next u log) ≡ true
+  -- when none is open, the recovered state equals, except its time, that of one uncut round without failures from the first log, with room if it has to write
+  pub ends : openIntents (run rs log) ≡ 0 → (u : Round) → Uncut broker log u → (0 < openIntents log → Room u log)
+      → sameRecovered (run rs log) (next u log) ≡ true

@@ -1,12 +1,14 @@
 -- The three calls of a round, one by one: what each needs to pass, and what it hands to the next. About no function.
 -- Assumes nothing.
-use Prim.Native.Nat.{ℕ, _*_}
+use Prim.Native.Nat.{ℕ, _+_, _*_}
 use mathlib.Core.Path.{_≡_, refl, sym, ap, _∙_}
 use mathlib.Core.List.{List, []}
-use mathlib.Core.Bool.{true, false, cond, false≢true}
+use mathlib.Core.Bool.{Bool, true, false, cond, false≢true}
+use native.Mathlib.Omega.{arith}
 use lib.Dec.{leb, ltb}
 use lib.IntN.{ℤ, pos}
 use lib.ListN.{length, take}
+use borrow.Author.Tests.{le-ltb}
 use Rattle.wire.specs.Table.{encoded, padded}
 use Rattle.wire.specs.Layout.{bothOf}
 use Rattle.wire.specs.declared.layout.Layout.{Layout}
@@ -14,7 +16,7 @@ use Rattle.wire.specs.declared.layout.Layout.the-variants as L
 use Rattle.wire.proofs.Layouts.{both-sound}
 use Rattle.wire.proofs.Written.{Bytes}
 use Rattle.wire.proofs.Records.{length-encoded}
-use Rattle.book.specs.Layout.{bookLayout}
+use Rattle.book.specs.Layout.{bookLayout, eventCount, rowCount}
 use Rattle.sheet.specs.Sheet.{sheetLayout, sheetOrders, ordersFailed}
 use Rattle.records.specs.Record.{orderBytes, ordersIn, ordersLayout}
 use Rattle.records.specs.Search.{isIntent, countWhere}
@@ -33,13 +35,13 @@ use Rattle.intents.specs.Intents as Lent
 use Rattle.intents.specs.declared.Reconciled.{Reconciled}
 use Rattle.intents.specs.declared.Reconciling.{Reconciling}
 use Rattle.intents.specs.declared.Reconciling.the-variants as Ask
-use Rattle.join.specs.Join.{joinedLength, tooLarge, joining}
+use Rattle.join.specs.Join.{joinedLength, tooLarge, joinsIf, joining}
 use Rattle.join.specs.declared.Joining.{Joining}
 use Rattle.join.specs.declared.Joining.the-variants as Joins
 use Rattle.rounds.specs.Rounds.{Round, Outcome, afterJoin, joinRound, lentOrders, lentAddendum, afterReconciling, reconcileRound, afterRecovery, roundOf, done}
 use Rattle.rounds.specs.declared.Rounded.the-variants.{NoRoom}
 use Rattle.rounds.proofs.Answers.{by-bool, take-padded, done-parts, reconciles-done, never-broken, Joinable, Third, third-passed, joining-is}
-use Rattle.demand3.specs.Demand3.{recovered, openIntents, reachedBy, addendumOf, passes}
+use Rattle.demand3.specs.Demand3.{recovered, openIntents, reachedBy, addendumOf, passes, Room}
 use Rattle.sound_state.proofs.Recovered.{recovered-orders-sound, recovered-orders-in, time-apart}
 
 -- ---- the first call
@@ -161,6 +163,28 @@ answered r len os k a y h =
     let q = both-sound (sheetLayout (r .sheet)) (timeLayout (r .time)) (p .0) in
     record { few = e; sheet = q .0; time = q .1; numbers = p .1; size = p .2; room = p .3; length = p .4 })
 
+-- where there is room for the addendum, 3 is not the answer
+reconciles-room : (l : Layout) (b : Bool) (a : List ℕ) (n m room : ℕ) → ltb room (length a) ≡ false → reconcilesIf l b a n m room ≡ Ask.NoRoom → ⊥
+reconciles-room L.Oversize b a n m room e h = let z : _≡_ {A = ℕ} 0 1 = cc in omega arith
+reconciles-room L.Broken b a n m room e h = let z : _≡_ {A = ℕ} 0 1 = cc in omega arith
+reconciles-room L.Sound false a n m room e h = let z : _≡_ {A = ℕ} 0 1 = cc in omega arith
+reconciles-room L.Sound true a n m room e h =
+    by-bool (tooLarge (length a) n 0) (λ t. let f = rw t at h in let z : _≡_ {A = ℕ} 0 1 = cc in omega arith)
+    (λ t. let f = rw (t, e) at h in let z : _≡_ {A = ℕ} 0 1 = cc in omega arith)
+
+broken-room : (l : Layout) (n : ℕ) → reconcilesIf (bothOf l L.Broken) true [] 0 0 n ≡ Ask.NoRoom → ⊥
+broken-room L.Sound n h = let z : _≡_ {A = ℕ} 0 1 = cc in omega arith
+broken-room L.Oversize n h = let z : _≡_ {A = ℕ} 0 1 = cc in omega arith
+broken-room L.Broken n h = let z : _≡_ {A = ℕ} 0 1 = cc in omega arith
+
+answer-room : (r : Round) (len : ℕ) (os : List Order) (k : ℕ) (a : List ℕ) → ltb (r .addendum) (length a) ≡ false → answerBy r len L.Sound os k a ≡ Ask.NoRoom → ⊥
+unfolding answerBy
+answer-room r len os k a room h =
+    by-bool (leb ordersMost len) (λ e. broken-room (sheetLayout (r .sheet)) (r .addendum) (rw e at h))
+    (λ e.
+    reconciles-room (bothOf (sheetLayout (r .sheet)) (timeLayout (r .time))) (numbersLeft k (countWhere isIntent os)) a
+    (length (reached (ordersFailed (r .sheet)) os (r .queries))) (unreached (ordersFailed (r .sheet)) os (r .queries)) (r .addendum) room (rw e at h))
+
 record Reconciles (v : Reconciling) : Type 0 where
   given : Reconciled
   is : v ≡ Ask.Done given
@@ -201,16 +225,18 @@ module _ (r : Round) (log : List ℕ) (b : Bytes log) (s : bookLayout log ≡ L.
       ∙ ap (λ (x : ℕ). answerBy r (64 * length (recovered log .orders)) L.Sound (recovered log .orders) x a) (number-apart log (r .now))
       ∙ ap (answerBy r (64 * length (recovered log .orders)) L.Sound (recovered log .orders) (recovered log .marks .number)) addendum-back
 
+  second-done : (y : Reconciled) → asked r log ≡ Ask.Done y → Second r log
+  second-done y e =
+      let p = answered r (64 * length (recovered log .orders)) (recovered log .orders) (recovered log .marks .number) (addendumOf r log) y e in
+      record { askable = record { few = p .few; sheet = p .sheet; time = p .time; numbers = p .numbers; size = p .size }; room = p .room }
+
   pub second-passed : done (reconcileRound r log (recoveredAt log (r .now)) .answer) ≡ true → Second r log
   unfolding reconcileRound
   second-passed h =
       let d = lentOrders r log (recoveredAt log (r .now)) in
       let m = stateOf log (r .now) .marks in
       let v = reconciles r log (recoveredAt log (r .now)) (reconciling m d (r .sheet) (r .queries) (r .time) (r .addendum)) h in
-      let p =
-      answered r (64 * length (recovered log .orders)) (recovered log .orders) (recovered log .marks .number) (addendumOf r log) (v .given)
-      (sym asked-is ∙ v .is) in
-      record { askable = record { few = p .few; sheet = p .sheet; time = p .time; numbers = p .numbers; size = p .size }; room = p .room }
+      second-done (v .given) (sym asked-is ∙ v .is)
 
   -- what it answers where it passes
   abbrev pub reconciledBy : Reconciled
@@ -264,6 +290,54 @@ third-full r log b s t h = ap (λ (v : Joining). afterJoin r log b v .answer) (j
 pub third-done : (r : Round) (log b : List ℕ) → bookLayout log ≡ L.Sound → Third r log b → done (joinRound r log b .answer) ≡ true
 unfolding joinRound
 third-done r log b s t = ap (λ (v : Joining). done (afterJoin r log b v .answer)) (joining-is r log b s t)
+
+joins-room : (l : Layout) (a b : List ℕ) (k room : ℕ) → ltb room (joinedLength a b k) ≡ false → joinsIf l a b k room ≡ Joins.NoRoom → ⊥
+joins-room L.Oversize a b k room e h = let z : _≡_ {A = ℕ} 0 1 = cc in omega arith
+joins-room L.Broken a b k room e h = let z : _≡_ {A = ℕ} 0 1 = cc in omega arith
+joins-room L.Sound a b k room e h =
+    by-bool (ltb (eventCount b) k) (λ t. let f = rw t at h in let z : _≡_ {A = ℕ} 0 1 = cc in omega arith)
+    (λ t.
+    by-bool (tooLarge (joinedLength a b k) (eventCount a + k) (rowCount a + rowCount b))
+    (λ u. let f = rw (t, u) at h in let z : _≡_ {A = ℕ} 0 1 = cc in omega arith)
+    (λ u. let f = rw (t, u, e) at h in let z : _≡_ {A = ℕ} 0 1 = cc in omega arith))
+
+third-room : (r : Round) (log b : List ℕ) → ltb (r .joined) (joinedLength log b (r .k)) ≡ false → joinRound r log b .answer ≡ NoRoom → ⊥
+unfolding joinRound joining
+third-room r log b e h = by (joining log b (r .k) (r .joined)) refl h
+  where
+    by : (v : Joining) → joining log b (r .k) (r .joined) ≡ v → afterJoin r log b v .answer ≡ NoRoom → ⊥
+    by (Joins.Done n) q h = let z : _≡_ {A = ℕ} 0 1 = cc in omega arith
+    by Joins.Oversize q h = let z : _≡_ {A = ℕ} 0 1 = cc in omega arith
+    by Joins.Broken q h = let z : _≡_ {A = ℕ} 0 1 = cc in omega arith
+    by Joins.TooMany q h = let z : _≡_ {A = ℕ} 0 1 = cc in omega arith
+    by Joins.NoRoom q h = joins-room (bothOf (bookLayout log) (bookLayout b)) log b (r .k) (r .joined) e q
+
+-- ---- with room 3 is not its answer
+reconciled-room : (r : Round) (log : List ℕ) (b : Bytes log) (s : bookLayout log ≡ L.Sound) (f : First r log) → Room r log
+    → reconcileRound r log (recoveredAt log (r .now)) .answer ≡ NoRoom → ⊥
+unfolding reconcileRound
+reconciled-room r log b s f m h = by (asked r log) refl (sym (ap (λ (v : Reconciling). afterReconciling r log x v .answer) (asked-is r log b s f)) ∙ h)
+  where
+    x : Recovered
+    x = recoveredAt log (r .now)
+
+    by : (v : Reconciling) → asked r log ≡ v → afterReconciling r log x v .answer ≡ NoRoom → ⊥
+    by (Ask.Done y) e h =
+        let q = second-done r log b s f y e in
+        third-room r log (addendumOf r log) (le-ltb (r .joined) (joinedLength log (addendumOf r log) (r .k)) (m .joined))
+        (sym (ap (λ (o : Outcome). o .answer) (second-is r log b s f q)) ∙ ap (λ (v : Reconciling). afterReconciling r log x v .answer) (asked-is r log b s f ∙ e) ∙ h)
+    by Ask.Oversize e h = let z : _≡_ {A = ℕ} 0 1 = cc in omega arith
+    by Ask.Broken e h = let z : _≡_ {A = ℕ} 0 1 = cc in omega arith
+    by Ask.NoNumbers e h = let z : _≡_ {A = ℕ} 0 1 = cc in omega arith
+    by Ask.NoRoom e h =
+        answer-room r (64 * length (recovered log .orders)) (recovered log .orders) (recovered log .marks .number) (addendumOf r log)
+        (le-ltb (r .addendum) (length (addendumOf r log)) (m .addendum)) e
+
+pub never-full : (r : Round) (log : List ℕ) → Bytes log → bookLayout log ≡ L.Sound → timeLayout (r .now) ≡ L.Sound → Room r log
+    → roundOf r log .answer ≡ NoRoom → ⊥
+never-full r log b s t m h =
+    let f : First r log = record { now = t; room = m .records } in
+    reconciled-room r log b s f m (sym (ap (λ (o : Outcome). o .answer) (first-is r log s f)) ∙ h)
 
 -- ---- the whole round
 pub record Passed (r : Round) (log : List ℕ) : Type 0 where

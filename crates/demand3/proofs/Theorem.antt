@@ -40,6 +40,7 @@ use Rattle.demand3.proofs.Ending.{ends-same, ends-flags}
 use Rattle.demand3.proofs.Stepping.{steps-number, noted, marks-timeless, marks-same, positions-self}
 use Rattle.demand3.proofs.Accepted.{book-accepted}
 use Rattle.demand3.proofs.Leading.{Led, led-marks, led-positions, led-total, led-refl, led-trans}
+use Rattle.demand3.proofs.Calls.{never-full}
 use Rattle.demand3.proofs.OfIntents.{written-of}
 use Rattle.demand3.proofs.OneRound.{led-next, round-fewer}
 use Rattle.demand3.proofs.Uncut.{uncut-room, uncut-led, uncut-shut, uncut-exists}
@@ -157,4 +158,10 @@ recovered-equal a b p q s t now then =
 
 -- ---- the theorem
 pub demand3 : Claim
-demand3 = record { rounds = of-rounds; uncut = uncut-exists; equal = recovered-equal }
+demand3 =
+    record {
+      rounds = of-rounds;
+      room = λ r log b. never-full r log (bytes-of log b);
+      uncut = uncut-exists;
+      equal = recovered-equal;
+    }

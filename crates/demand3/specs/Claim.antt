@@ -8,6 +8,7 @@ use lib.IntN.{ℤ}
 use Rattle.wire.specs.Table.{encoded}
 use Rattle.wire.specs.declared.layout.Layout.the-variants as L
 use Rattle.book.specs.Layout.{bookLayout}
+use Rattle.book.specs.Time.{timeLayout}
 use Rattle.sheet.specs.Sheet.{sheetLayout, sheetOrders, ordersFailed}
 use Rattle.sheet.specs.declared.BrokerOrderStatus.{BrokerOrderStatus}
 use Rattle.records.specs.Record.{orderBytes, positionBytes}
@@ -16,7 +17,8 @@ use Rattle.state.specs.State.{statesEqual}
 use Rattle.state.specs.declared.Equality.{Equality}
 use Rattle.state.specs.declared.Equality.the-variants.{Is}
 use Rattle.intents.specs.Intents.{chosen}
-use Rattle.rounds.specs.Rounds.{Round}
+use Rattle.rounds.specs.Rounds.{Round, roundOf}
+use Rattle.rounds.specs.declared.Rounded.the-variants.{NoRoom}
 use Rattle.demand3.specs.Demand3.{recovered, NoRepeat, Small, OneList, Uncut, Room, sameRecovered, Demand3}
 
 -- a log is a list of bytes
@@ -41,7 +43,7 @@ pub record SomeUncut (sheet log : List ℕ) : Type 0 where
   pub uncut : Uncut (sheetOrders sheet) log round
   pub room : Room round log
 
--- ---- what `states_equal` answers of two logs and of the marks and records that recovery made of them at these times
+-- ---- what `states_equal` answers of two logs, each with the marks and the records of a state
 abbrev pub equalAnswer : List ℕ → State → List ℕ → State → Equality
 equalAnswer a x b y =
     statesEqual a (x .marks) (encoded orderBytes (x .orders)) (encoded positionBytes (x .positions))
@@ -51,6 +53,9 @@ equalAnswer a x b y =
 pub record Claim : Type 0 where
   -- of every list of rounds
   pub rounds : (broker : List BrokerOrderStatus) (rs : List Round) (log : List ℕ) → Premises broker rs log → Demand3 broker rs log
+  -- with room no round is refused by 3
+  pub room : (r : Round) (log : List ℕ) → AreBytes log → bookLayout log ≡ L.Sound → timeLayout (r .now) ≡ L.Sound → Room r log
+      → roundOf r log .answer ≡ NoRoom → ⊥
   -- for every well-formed log and every sound sheet that has not failed there is an uncut round with room
   pub uncut : (sheet log : List ℕ) → bookLayout log ≡ L.Sound → sheetLayout sheet ≡ L.Sound → ordersFailed sheet ≡ false → SomeUncut sheet log
   -- equality of recovered states is what `states_equal` answers, whenever the two were recovered

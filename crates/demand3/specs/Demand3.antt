@@ -154,6 +154,6 @@ pub record Demand3 (broker : List BrokerOrderStatus) (rs : List Round) (log : Li
   -- the entries' numbers follow the first log's last checkpoint's without a gap
   pub numbers : Follow (lastNumber 0 (eventsOf log)) (added log (run rs log))
   pub fewer : Fewer rs log
-  -- when none is open, the recovered state equals, except its time, that of one uncut round without failures from the first log, with room if it has to write
+  -- when none is open, the recovered state equals, except its time, that of one uncut round without failures from the first log, with room if any was open
   pub ends : openIntents (run rs log) ≡ 0 → (u : Round) → Uncut broker log u → (0 < openIntents log → Room u log)
       → sameRecovered (run rs log) (next u log) ≡ true

@@ -24,7 +24,7 @@ use Rattle.sound_state.proofs.Tables.{each-map}
 use Rattle.sound_state.proofs.Spelling.{spelt-fits, spelt-field, spelt-wide}
 use Rattle.sound_state.proofs.Good.{Good, GoodPosition}
 use Rattle.sound_state.proofs.GoodBook.{state-good}
-use Rattle.sound_state.proofs.PositionBack.{PositionFits, positions-in, positions-sound}
+use Rattle.sound_state.proofs.PositionBack.{PositionFits, PositionPasses, positions-in, positions-sound}
 
 -- ---- records
 pub good-passes : (n : ℕ) (o : Order) → Good n o → OrderPasses o
@@ -33,6 +33,9 @@ good-passes n o g = record { fits = g .fits; field = spelt-field (o .symbol) (g 
 position-fits : (p : Position) → GoodPosition p → PositionFits p
 position-fits p g =
     let y = spelt-fits (p .symbol) (g .symbol) in record { word = y .word; len = y .len; quantity = g .quantity; cost = g .cost }
+
+position-good : (p : Position) → GoodPosition p → PositionPasses p
+position-good p g = record { fits = position-fits p g; field = spelt-wide (p .symbol) (g .symbol) }
 
 module _ (log : List ℕ) (time : ℤ) (b : Bytes log) (s : bookLayout log ≡ L.Sound) where
   pub recovered-orders-sound : ordersLayout (encoded orderBytes (stateOf log time .orders)) ≡ L.Sound
@@ -44,7 +47,7 @@ module _ (log : List ℕ) (time : ℤ) (b : Bytes log) (s : bookLayout log ≡ L
 
   pub recovered-positions-sound : positionsLayout (encoded positionBytes (stateOf log time .positions)) ≡ L.Sound
   recovered-positions-sound =
-      let ps = stateOf log time .positions in positions-sound ps (each-map ps (λ p g. spelt-wide (p .symbol) (g .symbol)) (state-good log time b s .positions))
+      let ps = stateOf log time .positions in positions-sound ps (each-map ps position-good (state-good log time b s .positions))
 
   pub recovered-positions-in : positionsIn (encoded positionBytes (stateOf log time .positions)) ≡ stateOf log time .positions
   recovered-positions-in = let ps = stateOf log time .positions in positions-in ps (each-map ps position-fits (state-good log time b s .positions))

@@ -1,4 +1,4 @@
--- The uncut round: once some list of rounds left none open, it is not refused and leaves none open either; and there is one for every sound log. About no
+-- The uncut round: once some list of rounds left none open, it is not refused and leaves none open either; and there is one for every log. About no
 -- function.
 -- Assumes nothing.
 use Prim.Native.Nat.{ℕ, zero, suc, _+_, _*_, _^_, _≤_, _<_}
@@ -233,8 +233,8 @@ recordsFor st (e ∷ es) =
     }
 
 -- and as much for B and for the log as they take
-pub uncut-exists : (sheet log : List ℕ) → bookLayout log ≡ L.Sound → sheetLayout sheet ≡ L.Sound → ordersFailed sheet ≡ false → SomeUncut sheet log
-uncut-exists sheet log s h up =
+pub uncut-exists : (sheet log : List ℕ) → sheetLayout sheet ≡ L.Sound → ordersFailed sheet ≡ false → SomeUncut sheet log
+uncut-exists sheet log h up =
     let r = recordsFor (firstState (pos 0)) (eventsOf log) in
     let n = openIntents log in
     let qs : List ℕ = replicate n 0 in

@@ -56,8 +56,8 @@ pub record Claim : Type 0 where
   -- with room no round is refused by 3
   pub room : (r : Round) (log : List ℕ) → AreBytes log → bookLayout log ≡ L.Sound → timeLayout (r .now) ≡ L.Sound → Room r log
       → roundOf r log .answer ≡ NoRoom → ⊥
-  -- for every well-formed log and every sound sheet that has not failed there is an uncut round with room
-  pub uncut : (sheet log : List ℕ) → bookLayout log ≡ L.Sound → sheetLayout sheet ≡ L.Sound → ordersFailed sheet ≡ false → SomeUncut sheet log
+  -- for every log and every sound sheet that has not failed there is an uncut round with room
+  pub uncut : (sheet log : List ℕ) → sheetLayout sheet ≡ L.Sound → ordersFailed sheet ≡ false → SomeUncut sheet log
   -- equality of recovered states is what `states_equal` answers, whenever the two were recovered
   pub equal : (a b : List ℕ) → AreBytes a → AreBytes b → bookLayout a ≡ L.Sound → bookLayout b ≡ L.Sound → (now then : ℤ)
       → equalAnswer a (stateOf a now) b (stateOf b then) ≡ Is (sameRecovered a b)

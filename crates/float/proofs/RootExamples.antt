@@ -6,8 +6,8 @@ use native.Mathlib.Nat.{not-le-of-lt}
 use lib.Dec.{lit<}
 use lib.Ieee.{binary64, ofBits, toBits}
 use Rattle.float.specs.Root.{wholeRoot, kept, sqrt}
-use Rattle.float.specs.Nearest.{Nearest, Rooted}
-use Rattle.float.proofs.RootNear.{near, sqrt-near}
+use Rattle.float.specs.Nearest.{Nearest, Rooted, unitsOf}
+use Rattle.float.proofs.RootNear.{near, bits-near}
 
 abbrev rootBits : ℕ → ℕ
 rootBits b = toBits binary64 (sqrt binary64 (ofBits binary64 b))
@@ -25,9 +25,11 @@ roots = refl
 abbrev pub number : ℕ
 number = 0x1f_ffff_ffff_ffff * 2 ^ 1023
 
+pub number-is : unitsOf 0x400f_ffff_ffff_ffff ≡ number
+number-is = refl
+
 pub rooted : Rooted number (sqrt binary64 (ofBits binary64 0x400f_ffff_ffff_ffff))
-unfolding ofBits
-rooted = sqrt-near (ofBits binary64 0x400f_ffff_ffff_ffff) number (lit< tt) (lit< tt) (refl, refl)
+rooted = bits-near 0x400f_ffff_ffff_ffff (lit< tt) (lit< tt)
 
 pub root-is-nearest : Nearest 53 (number * 2 ^ 1074) (0x1f_ffff_ffff_ffff * 2 ^ 1022)
 unfolding kept wholeRoot

@@ -1,23 +1,25 @@
 -- The definition of the square root is IEEE 754's: no value of the format is nearer to the root than what it keeps (`near`), and the root of a positive finite
--- f64 is that value, which binary64 holds (`sqrt-near`). What it keeps is the root's whole part in steps of 2 ^ k or the next step up, and every value of the
+-- f64 is that value, which binary64 holds (`sqrt-near`, and by the bits `bits-near`). What it keeps is the root's whole part in steps of 2 ^ k or the next step up, and every value of the
 -- format that is larger than the first is at least the second (`next-up`). Assumes nothing.
 use mathlib.Core.Path.{_≡_, refl, sym, ap, _∙_, subst}
 use mathlib.Core.Bool.{false, not}
 use Prim.Native.Nat.{ℕ, zero, suc, _+_, _-_, _*_, _/_, _%_, _^_, _≤_, _<_, compare, Ordering, Ordering·lt, Ordering·eq, Ordering·gt}
-use native.Mathlib.Nat.{le-trans, le-of-eq, le-of-lt, lt-of-lt-of-le, lt-of-le-of-lt, lt-of-not-le, not-le-of-lt, le-of-suc-le-suc, mul-assoc, mul-le-mul, mul-le-mul-left, mul-le-mul-right, mul-lt-mul-of-pos-right, div-mul-le-self, div-lt-iff-lt-mul, le-div-iff-mul-le}
+use native.Mathlib.Nat.{le-trans, le-of-eq, le-of-lt, lt-of-lt-of-le, lt-of-le-of-lt, lt-of-not-le, not-le-of-lt, le-of-suc-le-suc, mul-assoc, mul-pos, mul-le-mul, mul-le-mul-left, mul-le-mul-right, mul-lt-mul-of-pos-right, div-mul-le-self, div-lt-iff-lt-mul, le-div-iff-mul-le}
 use native.Mathlib.Numerals.{add-one}
 use native.Mathlib.Omega.{arith}
 use lib.Arith.{lt-of-le-ne}
-use lib.Dec.{T, lit<, isLe, isEq, leb→le, nleb→lt, eqb, eqb→eq, eqb-refl}
+use lib.Dec.{T, lit<, leb, isLe, isEq, leb→le, nleb→lt, eqb, eqb→eq, eqb-refl}
+use borrow.Author.Tests.{lt-leb}
 use lib.Pow.{pow-add, pow-pos, pow-mono}
-use lib.Ieee.{Float, Format, binary64, prec, size, nearest, units, fits}
+use lib.Ieee.{Float, Format, binary64, prec, size, nearest, units, fits, ofBits}
 use lib.Ieee.Digits.{size-lt, size-reaches}
 use lib.Ieee.Exact.{HasValue, units-val}
 use lib.Ieee.Fits.{two, nearest-le}
 use Rattle.float.specs.Root.{wholeRoot, kept, nearestRoot, sqrt}
-use Rattle.float.specs.Nearest.{Nearest, Rooted}
+use Rattle.float.specs.Nearest.{Nearest, Rooted, fieldUnits, unitsOf}
 use Rattle.float.proofs.RootLaw.{whole-is, swap, sqrt-value, cut}
 use Rattle.float.proofs.Unique.{units-fit}
+use Rattle.float.proofs.Decode.{parted-low, parted-mid}
 
 -- ---- what `compare` says
 abbrev Cmp : Ordering → ℕ → ℕ → Type 0
@@ -186,3 +188,34 @@ sqrt-near x a A h v =
       held = subst (λ (y : Float). T (fits binary64 y)) e (units-fit binary64 false q k (short binary64 n) r);
       close = N;
     }
+
+-- every positive finite f64, by its bits
+pub bits-near : (b : ℕ) → 0 < b → b < 0x7ff0_0000_0000_0000 → Rooted (unitsOf b) (sqrt binary64 (ofBits binary64 b))
+bits-near b B h = by (b / 2 ^ 52) refl
+  where
+    same : b % 0x8000_0000_0000_0000 ≡ b
+    same = omega arith
+
+    positive : leb 0x8000_0000_0000_0000 b ≡ false
+    positive = lt-leb 0x8000_0000_0000_0000 b (omega arith)
+
+    by : (e : ℕ) → b / 2 ^ 52 ≡ e → Rooted (fieldUnits e (b % 2 ^ 52)) (sqrt binary64 (ofBits binary64 b))
+    by zero q =
+        let t = b % 2 ^ 52 in
+        let s : t < 2 ^ 52 = omega arith in
+        let v : HasValue (ofBits binary64 b) false (t * 2 ^ 0) (2 ^ 1074) = rw positive at (parted-low b (rw same q) .value) in
+        let one : t * 2 ^ 0 ≡ t = omega arith in
+        sqrt-near (ofBits binary64 b) t (omega arith) (lt-of-lt-of-le s (pow-mono {i = 52} {j = 2098} (omega arith)))
+        (subst (λ (a : ℕ). HasValue (ofBits binary64 b) false a (2 ^ 1074)) one v)
+    by (suc e) q =
+        let t = b % 2 ^ 52 in
+        let s : 2 ^ 52 + t < 2 ^ 53 = omega arith in
+        let few : e ≤ 2045 = omega arith in
+        let at : b % 0x8000_0000_0000_0000 / 2 ^ 52 ≡ suc e = rw same q in
+        let v : HasValue (ofBits binary64 b) false ((2 ^ 52 + t) * 2 ^ (b % 0x8000_0000_0000_0000 / 2 ^ 52 - 1)) (2 ^ 1074) =
+        rw positive at (parted-mid b (omega arith) (λ (z : b % 0x8000_0000_0000_0000 / 2 ^ 52 ≡ 0). omega arith) .value) in
+        let less : b % 0x8000_0000_0000_0000 / 2 ^ 52 - 1 ≡ e = omega arith in
+        let k : 53 + e ≤ 2098 = omega arith in
+        sqrt-near (ofBits binary64 b) ((2 ^ 52 + t) * 2 ^ e) (mul-pos (omega arith) (pow-pos e))
+        (lt-of-lt-of-le (mul-lt-mul-of-pos-right s (pow-pos e)) (le-trans (le-of-eq (sym (pow-add 2 53 e))) (pow-mono k)))
+        (subst (λ (e : ℕ). HasValue (ofBits binary64 b) false ((2 ^ 52 + t) * 2 ^ e) (2 ^ 1074)) less v)

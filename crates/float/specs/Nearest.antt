@@ -1,7 +1,7 @@
 -- What it means that no value of a format is nearer to a square root. No entry's promise cites this file: `proofs/RootNear.antt` proves `Rooted` of each root
 -- that the definition `sqrt` of Root.antt gives. Definitions only.
 use mathlib.Core.Bool.{false}
-use Prim.Native.Nat.{ℕ, _+_, _*_, _^_, _≤_, _<_}
+use Prim.Native.Nat.{ℕ, zero, suc, _+_, _*_, _/_, _%_, _^_, _≤_, _<_}
 use lib.Dec.{T}
 use lib.Ieee.{Float, binary64, fits}
 use lib.Ieee.Exact.{HasValue}
@@ -20,3 +20,11 @@ pub record Rooted (a : ℕ) (y : Float) : Type 0 where
   pub value : HasValue y false root (2 ^ 1074)
   pub held : T (fits binary64 y)
   pub close : Nearest 53 (a * 2 ^ 1074) root
+
+-- how many units the positive finite f64 with the bits b is: its exponent's field, b / 2 ^ 52, and its fraction's
+abbrev pub fieldUnits : ℕ → ℕ → ℕ
+fieldUnits zero t = t
+fieldUnits (suc e) t = (2 ^ 52 + t) * 2 ^ e
+
+abbrev pub unitsOf : ℕ → ℕ
+unitsOf b = fieldUnits (b / 2 ^ 52) (b % 2 ^ 52)

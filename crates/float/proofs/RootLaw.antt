@@ -186,7 +186,7 @@ sqrt-value (inf t) a c A C v = absurd v
 sqrt-value (fin t m e) a c A C v = sqrt-fin t m e a c (v .0) A C (v .1)
 
 -- ---- from d * 2 ^ p to the form that `root-of` takes, with l for 1074 and g for 2 ^ 1074
-cut : (a g : ℕ) → 0 < g → a * (g * g) / g ≡ a * g
+pub cut : (a g : ℕ) → 0 < g → a * (g * g) / g ≡ a * g
 cut a g G = ap (λ (n : ℕ). n / g) (sym (mul-assoc a g g)) ∙ mul-div-cancel (a * g) G
 
 -- d * 2 ^ p * 2 ^ l is (d * 2 ^ z) * 2 ^ e where z + e = p + l

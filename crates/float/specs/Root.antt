@@ -1,4 +1,5 @@
--- IEEE 754's square root, written as lib.Ieee's `round` is: `proofs/RootNear.antt` shows that what it keeps is within half of its last place. Definitions only.
+-- IEEE 754's square root, written as lib.Ieee's `round` is. `proofs/RootNear.antt` shows that no value of the format is nearer to the root (`Nearest`, in
+-- Nearest.antt) and that binary64 holds it. Definitions only.
 use Prim.Native.Nat.{ℕ, zero, suc, _+_, _-_, _*_, _/_, _^_, compare}
 use mathlib.Core.Bool.{true, false, cond}
 use lib.Dec.{leb}

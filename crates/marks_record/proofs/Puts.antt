@@ -23,14 +23,14 @@ use Rattle.marks_record.specs.MarksRecord.{truthNumber, numberBytes, hea
 pub behind : (n : ℕ) (s t d : List ℕ) (at : ℕ) → length s ≡ n → sets (sets d at s) (at + n) t ≡ sets d at (s ++ t)
 behind n s t d at e = sym (sets-append d s t at ∙ ap (λ (k : ℕ). sets (sets d at s) (at + k) t) e)
 
-number-size : (n : SequenceNumber) → length (numberBytes n) ≡ 16
+pub number-size : (n : SequenceNumber) → length (numberBytes n) ≡ 16
 number-size (N.Is x) = simp (length-append, length-bytesOf)
 number-size N.Nothing = simp (length-append, length-bytesOf)
 
 pub pair-written : (d : List ℕ) (at : ℕ) (p : Pair) → sets (sets d at (numberBytes (p .intended))) (at + 16) (numberBytes (p .resulted)) ≡ sets d at (pairBytes p)
 pair-written d at p = behind 16 (numberBytes (p .intended)) (numberBytes (p .resulted)) d at (number-size (p .intended))
 
-pair-size : (p : Pair) → length (pairBytes p) ≡ 32
+pub pair-size : (p : Pair) → length (pairBytes p) ≡ 32
 pair-size p = length-append (numberBytes (p .intended)) (numberBytes (p .resulted)) ∙ rw (number-size (p .intended), number-size (p .resulted))
 
 pub pairs-written : (d : List ℕ) (m : Marks)

@@ -9,7 +9,7 @@ ghost use Rattle.audit.specs.Verdict.{bookVerdict, verdictNumbers};
 ghost use Rattle.sequence.specs.Sequence.{bookHighest, highestNumbers, bookWindow, windowNumbers};
 ghost use Rattle.answers.specs.Answer.{answerNumber, answerBytes};
 
-// Refusals 1 and 2 of a book.
+// Entry. Refusals 1 and 2 of a book.
 #[no_mangle]
 pub extern "C" fn desk_check_book(book: &[u8]) -> u32
     ensures { λ n. ⌜ n ≡ layoutNumber (bookLayout (now (book .entry))) ⌝ }
@@ -17,7 +17,7 @@ pub extern "C" fn desk_check_book(book: &[u8]) -> u32
     answers::layout_number(book::layout::check(book))
 }
 
-// Refusals 1 and 2 of a sheet.
+// Entry. Refusals 1 and 2 of a sheet.
 #[no_mangle]
 pub extern "C" fn desk_check_sheet(sheet: &[u8]) -> u32
     ensures { λ n. ⌜ n ≡ layoutNumber (sheetLayout (now (sheet .entry))) ⌝ }
@@ -37,7 +37,7 @@ pub extern "C" fn desk_validate_checkpoints(book: &[u8], answer: &mut [u8]) -> u
     answers::give(verdict, answer)
 }
 
-// The highest checkpoint number, then 0.
+// Entry. The highest checkpoint number, then 0.
 #[no_mangle]
 pub extern "C" fn desk_max_checkpoint_sequence(book: &[u8], answer: &mut [u8]) -> u32
     ensures { λ k. ⌜ k ≡ answerNumber (highestNumbers (bookHighest (now (book .entry))) .0) (length (now (answer .entry))) ⌝ }
@@ -47,7 +47,7 @@ pub extern "C" fn desk_max_checkpoint_sequence(book: &[u8], answer: &mut [u8]) -
     answers::give(highest, answer)
 }
 
-// 1 and the number by which the window is already complete, or two zeros.
+// Entry. 1 and the number by which the window is already complete, or two zeros.
 #[no_mangle]
 pub extern "C" fn desk_check_window_already_complete(
     book: &[u8],

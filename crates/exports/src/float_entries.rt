@@ -5,7 +5,7 @@ ghost use lib.IntN.{pos};
 ghost use Rattle.float.specs.Bits.{isFinite};
 ghost use Rattle.float.specs.Root.{sqrt};
 
-// The bits of the f64 that has the bits n: n itself, but for a NaN's, which become 0x7ff8_0000_0000_0000.
+// Entry. The bits of the f64 that has the bits n: n itself, but for a NaN's, which become 0x7ff8_0000_0000_0000.
 #[no_mangle]
 pub extern "C" fn desk_f64_bits(n: u64) -> u64
     ensures { λ r. ⌜ r ≡ toBits binary64 (ofBits binary64 n) ⌝ }
@@ -13,7 +13,7 @@ pub extern "C" fn desk_f64_bits(n: u64) -> u64
     float::bits::to_bits(float::bits::from_bits(n))
 }
 
-// Whether the f64 that has the bits n is finite.
+// Entry. Whether the f64 that has the bits n is finite.
 #[no_mangle]
 pub extern "C" fn desk_is_finite(n: u64) -> bool
     ensures { λ r. ⌜ r ≡ isFinite (ofBits binary64 n) ⌝ }
@@ -21,7 +21,7 @@ pub extern "C" fn desk_is_finite(n: u64) -> bool
     float::bits::is_finite(float::bits::from_bits(n))
 }
 
-// `as i64` of the f64 that has the bits n.
+// Entry. `as i64` of the f64 that has the bits n.
 #[no_mangle]
 pub extern "C" fn desk_saturating_i64(n: u64) -> i64
     ensures { λ r. ⌜ r ≡ toSigned 63 (ofBits binary64 n) ⌝ }
@@ -29,7 +29,7 @@ pub extern "C" fn desk_saturating_i64(n: u64) -> i64
     float::bits::saturating_i64(float::bits::from_bits(n))
 }
 
-// The bits of n `as f64`.
+// Entry. The bits of n `as f64`.
 #[no_mangle]
 pub extern "C" fn desk_nearest_i64(n: i64) -> u64
     ensures { λ r. ⌜ r ≡ toBits binary64 (ofInt binary64 n) ⌝ }
@@ -37,7 +37,7 @@ pub extern "C" fn desk_nearest_i64(n: i64) -> u64
     float::bits::to_bits(float::bits::nearest_i64(n))
 }
 
-// The bits of n `as f64`.
+// Entry. The bits of n `as f64`.
 #[no_mangle]
 pub extern "C" fn desk_nearest_u64(n: u64) -> u64
     ensures { λ r. ⌜ r ≡ toBits binary64 (ofInt binary64 (pos n)) ⌝ }
@@ -45,7 +45,7 @@ pub extern "C" fn desk_nearest_u64(n: u64) -> u64
     float::bits::to_bits(float::bits::nearest_u64(n))
 }
 
-// The bits of the square root of the f64 that has the bits n.
+// Entry. The bits of the square root of the f64 that has the bits n.
 #[no_mangle]
 pub extern "C" fn desk_sqrt(n: u64) -> u64
     ensures { λ r. ⌜ r ≡ toBits binary64 (sqrt binary64 (ofBits binary64 n)) ⌝ }

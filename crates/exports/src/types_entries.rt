@@ -8,7 +8,7 @@ ghost use Rattle.types.specs.Order.{signExtended, truncated};
 ghost use Rattle.answers.specs.FixedAnswer.{refusalIn, bytesIn};
 use answers::fixed_answer;
 
-// `f64_to_fixed_checked` of the f64s that have the bits value and scale.
+// Entry. `f64_to_fixed_checked` of the f64s that have the bits value and scale.
 #[no_mangle]
 pub extern "C" fn desk_f64_to_fixed_checked(value: u64, scale: u64, answer: &mut [u8]) -> u32
     ensures { λ k. ⌜ k ≡ refusalIn (toFixed (ofBits binary64 value) (ofBits binary64 scale)) (length (now (answer .entry))) ⌝ }
@@ -31,7 +31,7 @@ pub extern "C" fn desk_f64_cents_checked(value: u64, answer: &mut [u8]) -> u32
     fixed_answer::give_fixed(r, answer)
 }
 
-// An i32 ibkr_id `as u64`.
+// Entry. An i32 ibkr_id `as u64`.
 #[no_mangle]
 pub extern "C" fn desk_sign_extended(ibkr: i32) -> u64
     ensures { λ r. ⌜ r ≡ signExtended ibkr ⌝ }
@@ -39,7 +39,7 @@ pub extern "C" fn desk_sign_extended(ibkr: i32) -> u64
     types::order::sign_extended(ibkr)
 }
 
-// An i64 `as i32`.
+// Entry. An i64 `as i32`.
 #[no_mangle]
 pub extern "C" fn desk_truncated_i32(n: i64) -> i32
     ensures { λ r. ⌜ r ≡ truncated n ⌝ }

@@ -1,4 +1,4 @@
--- What src/parts.rt promises. Definitions only.
+-- What src/parts.rt promises. No entry's promise cites this file.
 use Prim.Native.Nat.{ℕ, _*_, _%_, _^_, _≤_, _<_}
 use lib.Dec.{leb}
 use lib.Ieee.{binary64, ofBits}

@@ -2,7 +2,7 @@
 -- Assumes nothing.
 use Prim.Native.Nat.{ℕ, _*_}
 use mathlib.Core.Path.{_≡_, refl, sym, ap, _∙_}
-use mathlib.Core.List.{List, [], _∷_}
+use mathlib.Core.List.{List, []}
 use mathlib.Core.Bool.{true, false, cond, false≢true}
 use lib.Dec.{leb, ltb}
 use lib.IntN.{ℤ, pos}
@@ -12,15 +12,15 @@ use Rattle.wire.specs.Layout.{bothOf}
 use Rattle.wire.specs.declared.layout.Layout.{Layout}
 use Rattle.wire.specs.declared.layout.Layout.the-variants as L
 use Rattle.wire.proofs.Layouts.{both-sound}
-use Rattle.wire.proofs.Records.{Each, length-encoded}
-use Rattle.wire.proofs.Records as Of
+use Rattle.wire.proofs.Written.{Bytes}
+use Rattle.wire.proofs.Records.{length-encoded}
 use Rattle.symbol.specs.declared.Symbol.{Symbol}
 use Rattle.book.specs.Layout.{bookLayout}
 use Rattle.sheet.specs.Sheet.{sheetLayout, sheetOrders, ordersFailed}
 use Rattle.records.specs.Record.{orderBytes, ordersIn, ordersLayout}
 use Rattle.records.specs.Search.{isIntent, countWhere}
 use Rattle.records.specs.declared.order.Order.{Order}
-use Rattle.records.proofs.Orders.{order-size, orders-in, orders-sound}
+use Rattle.records.proofs.Orders.{order-size}
 use Rattle.marks.specs.declared.Marks.{Marks}
 use Rattle.effects.specs.Event.{eventsOf}
 use Rattle.marks.specs.Action.{actionOf}
@@ -41,8 +41,7 @@ use Rattle.rounds.specs.Rounds.{Round, Outcome, afterJoin, joinRound, lentOrder
 use Rattle.rounds.specs.declared.Rounded.the-variants.{NoRoom}
 use Rattle.rounds.proofs.Answers.{by-bool, take-padded, done-parts, reconciles-done, never-broken, Joinable, Third, third-passed, joining-is}
 use Rattle.demand3.specs.Demand3.{recovered, openIntents, passes}
-use Rattle.demand3.proofs.Stepping.{steps-number, orders-apart}
-use Rattle.demand3.proofs.Spelling.{Good, good-passes}
+use Rattle.sound_state.proofs.Recovered.{recovered-orders-sound, recovered-orders-in, time-apart}
 
 -- ---- the first call
 abbrev pub recoveredAt : List ℕ → ℤ → Recovered
@@ -112,21 +111,17 @@ pub record Second (r : Round) (log : List ℕ) : Type 0 where
 
 -- what it is lent: the marks' number and the orders
 number-apart : (log : List ℕ) (now : ℤ) → stateOf log now .marks .number ≡ recovered log .marks .number
-number-apart log now = steps-number (firstState now) (eventsOf log) ∙ sym (steps-number (firstState (pos 0)) (eventsOf log))
+number-apart log now = ap (λ (m : Marks). m .number) (time-apart log now (pos 0) .marks)
 
 lent-is : (r : Round) (log : List ℕ) → bookLayout log ≡ L.Sound → First r log
     → lentOrders r log (recoveredAt log (r .now)) ≡ encoded orderBytes (recovered log .orders)
 unfolding ordersOut
 lent-is r log s f =
     let os = stateOf log (r .now) .orders in
-    let e : encoded orderBytes os ≡ encoded orderBytes (recovered log .orders) = ap (encoded orderBytes) (orders-apart log (r .now)) in
+    let e : encoded orderBytes os ≡ encoded orderBytes (recovered log .orders) = ap (encoded orderBytes) (time-apart log (r .now) (pos 0) .orders) in
     ap (λ (v : Recovery). take (64 * length os) (bytesIf v (r .orders) (encoded orderBytes os))) (recovery-is r log s f)
     ∙ ap (λ (n : ℕ). take n (padded (r .orders) (encoded orderBytes os))) (sym (length-encoded orderBytes 64 order-size os))
     ∙ take-padded (r .orders) (encoded orderBytes os) ∙ e
-
-pub each-map : {A : Type 0} {P Q : A → Type 0} (xs : List A) → ((x : A) → P x → Q x) → Each P xs → Each Q xs
-each-map [] f Of.none = Of.none
-each-map (x ∷ xs) f (Of.more p ps) = Of.more (f x p) (each-map xs f ps)
 
 -- the answer, by the length, the layout and the orders of what it is lent, the number and the addendum
 unfoldable answerBy : Round → ℕ → Layout → List Order → ℕ → List ℕ → Reconciling
@@ -185,14 +180,14 @@ reconciles r log x Ask.Broken h = absurd (false≢true h)
 reconciles r log x Ask.NoNumbers h = absurd (false≢true h)
 reconciles r log x Ask.NoRoom h = absurd (false≢true h)
 
-module _ (r : Round) (log : List ℕ) (n : ℕ) (s : bookLayout log ≡ L.Sound) (f : First r log) (g : Each (Good n) (recovered log .orders)) where
+module _ (r : Round) (log : List ℕ) (b : Bytes log) (s : bookLayout log ≡ L.Sound) (f : First r log) where
   -- the orders that were lent are those recovered
   orders-back : ordersIn (lentOrders r log (recoveredAt log (r .now))) ≡ recovered log .orders
   orders-back =
-      ap ordersIn (lent-is r log s f) ∙ orders-in (recovered log .orders) (each-map (recovered log .orders) (λ o q. q .fits) g)
+      ap ordersIn (lent-is r log s f) ∙ recovered-orders-in log (pos 0) b s
 
   layout-back : ordersLayout (lentOrders r log (recoveredAt log (r .now))) ≡ L.Sound
-  layout-back = ap ordersLayout (lent-is r log s f) ∙ orders-sound (recovered log .orders) (each-map (recovered log .orders) (good-passes n) g)
+  layout-back = ap ordersLayout (lent-is r log s f) ∙ recovered-orders-sound log (pos 0) b s
 
   length-back : length (lentOrders r log (recoveredAt log (r .now))) ≡ 64 * length (recovered log .orders)
   length-back = ap length (lent-is r log s f) ∙ length-encoded orderBytes 64 order-size (recovered log .orders)
@@ -285,14 +280,14 @@ pub record Passed (r : Round) (log : List ℕ) : Type 0 where
   pub third : Third r log (roundAddendum r log)
   pub is : roundOf r log ≡ joinRound r log (roundAddendum r log)
 
-pub stages : (r : Round) (log : List ℕ) (n : ℕ) → bookLayout log ≡ L.Sound → Each (Good n) (recovered log .orders) → First r log → Second r log
+pub stages : (r : Round) (log : List ℕ) → Bytes log → bookLayout log ≡ L.Sound → First r log → Second r log
     → roundOf r log ≡ joinRound r log (roundAddendum r log)
-stages r log n s g f q = first-is r log s f ∙ second-is r log n s f g q
+stages r log b s f q = first-is r log s f ∙ second-is r log b s f q
 
-pub passed : (r : Round) (log : List ℕ) (n : ℕ) → bookLayout log ≡ L.Sound → Each (Good n) (recovered log .orders) → passes r log ≡ true → Passed r log
-passed r log n s g h =
+pub passed : (r : Round) (log : List ℕ) → Bytes log → bookLayout log ≡ L.Sound → passes r log ≡ true → Passed r log
+passed r log b s h =
     let f = first-passed r log h in
     let h₂ = sym (ap (λ (o : Outcome). done (o .answer)) (first-is r log s f)) ∙ h in
-    let q = second-passed r log n s f g h₂ in
-    let h₃ = sym (ap (λ (o : Outcome). done (o .answer)) (second-is r log n s f g q)) ∙ h₂ in
-    record { first = f; second = q; third = third-passed r log (roundAddendum r log) s h₃; is = stages r log n s g f q }
+    let q = second-passed r log b s f h₂ in
+    let h₃ = sym (ap (λ (o : Outcome). done (o .answer)) (second-is r log b s f q)) ∙ h₂ in
+    record { first = f; second = q; third = third-passed r log (roundAddendum r log) s h₃; is = stages r log b s f q }

@@ -1,6 +1,6 @@
 -- Two ways on from the same orders, each to its own text, that leave none open: the orders are equal as states are compared. About no function.
 -- Assumes nothing.
-use Prim.Native.Nat.{ℕ, _+_, _≤_}
+use Prim.Native.Nat.{ℕ, _+_}
 use mathlib.Core.Path.{_≡_, refl, sym, ap, _∙_}
 use mathlib.Core.List.{List, [], _∷_, _++_, map}
 use mathlib.Core.Bool.{Bool, true}
@@ -26,25 +26,13 @@ use Rattle.state.specs.State.{sameInt, readFlags, textOr, sameTexts, sameOrder,
 use Rattle.intents.specs.declared.Chosen.{Chosen}
 use Rattle.intents.specs.declared.Chosen.the-variants as C
 use Rattle.rounds.proofs.Answers.{by-bool}
+use Rattle.sound_state.proofs.Tables.{and-both}
+use Rattle.sound_state.proofs.Good.{RefIn, StrIn, RefsIn}
 use Rattle.demand3.proofs.JoinEvents.{text-kept}
-use Rattle.demand3.proofs.MovedTables.{and-both}
 use Rattle.demand3.proofs.Settling.{settle, Reads, same-refl}
 use Rattle.demand3.proofs.Progress.{Prog, done, keep, shut}
 
--- ---- references within a text of n bytes
-abbrev pub RefIn : ℕ → TextRef → Type 0
-RefIn n r = r .first + r .len ≤ n
-
-abbrev pub StrIn : ℕ → AsStr → Type 0
-StrIn n (Str.Is r) = RefIn n r
-StrIn n Str.Nothing = Unit
-
-pub record RefsIn (n : ℕ) (o : Order) : Type 0 where
-  pub action : RefIn n (o .action)
-  pub client : StrIn n (o .client)
-  pub reason : StrIn n (o .reason)
-
--- they read the same whatever stands behind the text
+-- ---- references read the same whatever stands behind the text
 ref-same : (s t u : List ℕ) (r : TextRef) → RefIn (length s) r → textIn (s ++ t) r ≡ textIn (s ++ u) r
 ref-same s t u r h = text-kept s t r h ∙ sym (text-kept s u r h)
 

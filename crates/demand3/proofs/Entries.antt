@@ -1,16 +1,21 @@
 -- The entries of an addendum as recovery reads them from the log they are joined to. About no function.
 -- Assumes nothing.
-use Prim.Native.Nat.{ℕ, suc, _+_}
-use mathlib.Core.Path.{_≡_}
+use Prim.Native.Nat.{ℕ, suc, _+_, _-_}
+use mathlib.Core.Path.{_≡_, refl, ap, _∙_}
+use mathlib.Core.Bool.{true}
 use mathlib.Core.List.{List, [], _∷_}
 use mathlib.Core.Option.{Option, none, some}
 use lib.IntN.{ℤ}
-use lib.ListN.{length}
+use lib.ListN.{length, take, replicate}
+use lib.Seq.{take-at}
 use mir.Syntax.{w64}
 use mir.Val.{toZ}
 use Rattle.wire.specs.Le.{le}
-use Rattle.symbol.specs.Symbol.{symbolWidth}
+use Rattle.wire.specs.Table.{padded}
+use Rattle.wire.proofs.Written.{Bytes}
+use Rattle.symbol.specs.Symbol.{symbolWidth, parses, symbolOf}
 use Rattle.symbol.specs.declared.Symbol.{Symbol}
+use Rattle.symbol.proofs.Text.{text-bytes, parses-most}
 use Rattle.cell.specs.declared.TextRef.{TextRef}
 use Rattle.cell.specs.declared.AsStr.{AsStr}
 use Rattle.cell.specs.declared.AsStr.the-variants as Str
@@ -25,6 +30,7 @@ use Rattle.checkpoint.specs.declared.Checkpoint.{Checkpoint}
 use Rattle.checkpoint.specs.declared.Checkpoint.the-variants.{OrderSubmitted, OrderFailed}
 use Rattle.checkpoint.specs.declared.Named.the-variants as K
 use Rattle.effects.specs.Event.{Event}
+use Rattle.sound_state.proofs.Spelling.{Spelt}
 use Rattle.intents.specs.Intents.{symbolText, entryName, entryText, reasonText, idCellBytes}
 use Rattle.intents.specs.declared.Chosen.{Chosen}
 use Rattle.intents.specs.declared.Chosen.the-variants as C
@@ -33,6 +39,17 @@ use Rattle.intents.specs.declared.Chosen.the-variants as C
 pub record Texted (y : Symbol) : Type 0 where
   pub len : length (symbolText y) ≡ y .len
   pub word : le symbolWidth (symbolText y) ≡ y .word
+
+-- as one does that a text spells
+spelt-text : (t : List ℕ) → parses t ≡ true → Bytes t → symbolText (symbolOf t) ≡ t
+unfolding padded
+spelt-text t p b =
+    ap (take (length t)) (text-bytes symbolWidth t b (parses-most t p)) ∙ take-at t (replicate (symbolWidth - length t) 0) (length t) refl
+
+pub spelt-texted : (y : Symbol) → Spelt y → Texted y
+spelt-texted y s =
+    let e = spelt-text (s .text) (s .parse) (s .bytes) in
+    rw (s .same) (record { len = ap length e; word = ap (le symbolWidth) e })
 
 abbrev pub entryCheckpoint : Chosen → Checkpoint
 entryCheckpoint (C.Is id) = OrderSubmitted

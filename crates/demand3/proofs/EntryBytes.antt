@@ -38,7 +38,8 @@ use Rattle.book.specs.Time.{timeLayout}
 use Rattle.intents.specs.declared.Chosen.{Chosen}
 use Rattle.intents.specs.declared.Chosen.the-variants as C
 use Rattle.demand3.proofs.Entries.{Texted, entryCheckpoint, entryId, entryReason, entryEvent}
-use Rattle.demand3.proofs.MovedTables.{and-both, bytes-append, bytes-number}
+use Rattle.sound_state.proofs.Tables.{and-both}
+use Rattle.demand3.proofs.MovedTables.{bytes-append, bytes-number}
 use Rattle.demand3.proofs.MovedEvents.{passes}
 
 -- ---- a cell that was written

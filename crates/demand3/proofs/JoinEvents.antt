@@ -9,7 +9,7 @@ use native.Mathlib.Nat.{add-comm, le-refl}
 use native.Mathlib.Omega.{arith}
 use lib.Dec.{lit<}
 use lib.ListN.{length, take, drop, length-drop}
-use lib.Seq.{drop-drop, drop-append-le, drop-append-add, take-append-le}
+use lib.Seq.{drop-append-le, drop-append-add, take-append-le}
 use borrow.Author.Tests.{leb-true}
 use Rattle.wire.specs.Le.{le}
 use Rattle.wire.specs.Table.{every, records}
@@ -26,18 +26,19 @@ use Rattle.cell.specs.declared.AsArray.{AsArray}
 use Rattle.cell.specs.declared.AsArray.the-variants as A
 use Rattle.cell.specs.declared.Cell.{Cell}
 use Rattle.cell.specs.declared.Cell.the-variants.{None, Int, Big, Float, Text, Truth, List as Rows}
-use Rattle.book.specs.Layout.{cellOk, rowCellOk, rowOk, eventOk, payloadOk, eventCount, rowCount, textLength, bookLayout}
+use Rattle.book.specs.Layout.{cellOk, rowOk, eventOk, payloadOk, eventCount, rowCount, textLength, bookLayout}
 use Rattle.book.specs.Event.{eventsIn, rowsIn, textOf, nameIn}
 use Rattle.effects.specs.Event.{Event, Row, bytesOfText, rowOf, rowsOf, eventOf, eventsOf}
-use Rattle.wire.proofs.Table.{every-at}
-use Rattle.book.proofs.Sound.{ArrayIn, cell-array, event-cell}
+use Rattle.book.proofs.Sound.{ArrayIn, cell-array}
 use Rattle.join.specs.Join.{each, movedCell, movedRow, movedEvent, joined, joinedLength, tooLarge}
 use Rattle.join.proofs.Moves.{cell-size, row-size, event-size}
 use Rattle.demand3.proofs.BookOf.{small}
-use Rattle.demand3.proofs.MovedTables.{every-from, every-take, records-near, records-take, records-same, records-moved, drop-each, each-at}
-use Rattle.demand3.proofs.MovedCells.{cell-near, movedValue, cell-moved, row-cell}
+use Rattle.sound_state.proofs.Tables.{every-from, every-take}
+use Rattle.sound_state.proofs.Tabled.{laid, eventBytes, rowBytes, row-cell-at, event-cell-at}
+use Rattle.demand3.proofs.MovedTables.{records-near, records-take, records-same, records-moved, drop-each, each-at}
+use Rattle.demand3.proofs.MovedCells.{cell-near, movedValue, cell-moved}
 use Rattle.demand3.proofs.MovedEvents.{passed, first-moved, len-moved, mark-moved, number-moved, time-moved, cell-at}
-use Rattle.demand3.proofs.JoinLayout.{laid, eventBytes, rowBytes, addedEvents, addedRows, joined-count, joined-text, joined-rows, joined-events}
+use Rattle.demand3.proofs.JoinLayout.{addedEvents, addedRows, joined-count, joined-text, joined-rows, joined-events}
 
 -- ---- text references moved by d bytes; names, symbols and lists are held by value already
 abbrev pub movedStr : ℕ → AsStr → AsStr
@@ -128,10 +129,6 @@ row-of-near : (text s t : List ℕ) → 64 ≤ length s → rowOf text (s ++ t) 
 row-of-near text s t h =
     rw (cell-near 0 s t (omega arith), cell-near 16 s t (omega arith), cell-near 32 s t (omega arith), cell-near 48 s t (omega arith))
 
-pub row-cell-at : (rows text : ℕ) (s : List ℕ) (i : ℕ) → rowOk rows text s ≡ true → i < 4 → cellOk rows text (drop (16 * i) s) ≡ true
-unfolding rowOk
-row-cell-at rows text s i ok h = row-cell rows text (drop (16 * i) s) (every-at (rowCellOk rows text) 16 4 s i ok h)
-
 row-kept : (rows : ℕ) (t u s : List ℕ) → rowOk rows (length t) s ≡ true → rowOf (t ++ u) s ≡ rowOf t s
 row-kept rows t u s ok = rw (cell-str-kept rows t u s (row-cell-at rows (length t) s 0 ok (lit< tt)))
 
@@ -213,9 +210,6 @@ event-of-near rows text s t h =
       cell-near 176 s t (omega arith),
       cell-near 192 s t (omega arith),
     )
-
-pub event-cell-at : (rows text : ℕ) (s : List ℕ) (i : ℕ) → eventOk rows text s ≡ true → i < 13 → cellOk rows text (drop (32 + 16 * i) s) ≡ true
-event-cell-at rows text s i ok h = rw (← drop-drop (16 * i) 32 s) (event-cell rows text s i ok h)
 
 -- an event of A over more rows and more text
 event-kept : (n : ℕ) (rs x y t u : List ℕ) → length rs ≡ 64 * n → every (rowOk n (length t)) 64 n (rs ++ y) ≡ true

@@ -3,64 +3,23 @@
 use Prim.Native.Nat.{ℕ, _+_, _*_, _^_, _≤_, _<_}
 use mathlib.Core.Path.{_≡_, sym, ap, _∙_}
 use mathlib.Core.List.{List, _++_, append-assoc}
-use mathlib.Core.Bool.{true, false, _&&_}
+use mathlib.Core.Bool.{true, false}
 use native.Mathlib.Omega.{arith}
-use lib.ListN.{length, take, length-append, length-drop, take-append-drop}
-use lib.Seq.{drop-drop, length-take-le}
+use lib.ListN.{length, length-append}
 use Rattle.wire.specs.Le.{bytesOf}
 use Rattle.wire.specs.Table.{every}
 use Rattle.wire.specs.declared.layout.Layout.the-variants as L
 use Rattle.wire.proofs.Written.{Bytes}
-use Rattle.wire.proofs.Bools.{and-left, and-right}
 use Rattle.symbol.proofs.Text.{bytes-take, bytes-drop}
-use Rattle.book.specs.Layout.{rowOk, eventOk, eventCount, rowCount, textLength, tablesOk, partsOk, bookLayout}
+use Rattle.book.specs.Layout.{rowOk, eventOk, eventCount, rowCount, textLength, bookLayout}
 use Rattle.book.specs.Event.{eventsIn, rowsIn, textOf}
-use Rattle.book.proofs.Sound.{sound-counts, laid-size}
 use Rattle.join.specs.Join.{bookOf, each, movedRow, movedEvent, joined, joinedLength, tooLarge}
 use Rattle.join.proofs.Moves.{each-size, row-size, event-size}
 use Rattle.demand3.proofs.BookOf.{small, Reads, book-reads, book-sound}
-use Rattle.demand3.proofs.MovedTables.{bytes-append, bytes-number, every-near, every-append, every-take, every-more, every-moved, bytes-each}
+use Rattle.sound_state.proofs.Tables.{every-take}
+use Rattle.sound_state.proofs.Tabled.{eventBytes, rowBytes, Laid}
+use Rattle.demand3.proofs.MovedTables.{bytes-append, bytes-number, every-near, every-append, every-more, every-moved, bytes-each}
 use Rattle.demand3.proofs.MovedEvents.{row-near, row-more, bytes-row, row-ok-moved, event-near, event-more, bytes-event, event-ok-moved}
-
--- ---- a sound book's tables
-abbrev pub eventBytes : List ℕ → List ℕ
-eventBytes s = take (240 * eventCount s) (eventsIn s)
-
-abbrev pub rowBytes : List ℕ → List ℕ
-rowBytes s = take (64 * rowCount s) (rowsIn s)
-
-pub record Laid (s : List ℕ) : Type 0 where
-  pub events : every (eventOk (rowCount s) (textLength s)) 240 (eventCount s) (eventsIn s) ≡ true
-  pub rows : every (rowOk (rowCount s) (textLength s)) 64 (rowCount s) (rowsIn s) ≡ true
-  pub text : length (textOf s) ≡ textLength s
-  pub eventSize : length (eventBytes s) ≡ 240 * eventCount s
-  pub rowSize : length (rowBytes s) ≡ 64 * rowCount s
-  pub eventSplit : eventsIn s ≡ eventBytes s ++ rowsIn s
-  pub rowSplit : rowsIn s ≡ rowBytes s ++ textOf s
-
-laid-parts : (s : List ℕ) → partsOk s ≡ true → Laid s
-unfolding partsOk
-laid-parts s h =
-    let n = eventCount s in
-    let m = rowCount s in
-    let events = every (eventOk m (textLength s)) 240 n (eventsIn s) in
-    let rows = every (rowOk m (textLength s)) 64 m (rowsIn s) in
-    let te = and-left (tablesOk s && events) rows h in
-    let size = laid-size s (and-left (tablesOk s) events te) in
-    let e : 240 * n ≤ length (eventsIn s) = rw length-drop (omega arith) in
-    let r : 64 * m ≤ length (rowsIn s) = rw length-drop (omega arith) in
-    record {
-      events = and-right (tablesOk s) events te;
-      rows = and-right (tablesOk s && events) rows h;
-      text = length-drop (24 + 240 * n + 64 * m) s ∙ omega arith;
-      eventSize = length-take-le (240 * n) (eventsIn s) e;
-      rowSize = length-take-le (64 * m) (rowsIn s) r;
-      eventSplit = sym (take-append-drop (240 * n) (eventsIn s)) ∙ ap (λ (l : List ℕ). eventBytes s ++ l) (drop-drop (240 * n) 24 s);
-      rowSplit = sym (take-append-drop (64 * m) (rowsIn s)) ∙ ap (λ (l : List ℕ). rowBytes s ++ l) (drop-drop (64 * m) (24 + 240 * n) s);
-    }
-
-pub laid : (s : List ℕ) → bookLayout s ≡ L.Sound → Laid s
-laid s h = laid-parts s (sound-counts s h .parts)
 
 -- ---- the joined book's tables
 abbrev pub addedEvents : List ℕ → List ℕ → ℕ → List ℕ

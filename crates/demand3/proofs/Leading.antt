@@ -24,8 +24,9 @@ use Rattle.demand3.specs.Demand3.{recovered, openIntents}
 use Rattle.demand3.proofs.Entries.{Texted}
 use Rattle.demand3.proofs.Settling.{Written, end, written-more, written-append, written-length}
 use Rattle.demand3.proofs.Progress.{Prog, prog-refl, prog-more, prog-trans, prog-length, openWeight, sum, one, weight-count, sum-one, sum-append, textWeight}
-use Rattle.demand3.proofs.Stepping.{timeless, noted, noted-number, steps-marks, entries-positions}
-use Rattle.demand3.proofs.SoundBook.{events-count}
+use Rattle.sound_state.proofs.Tabled.{events-count}
+use Rattle.sound_state.proofs.Recovered.{timeless}
+use Rattle.demand3.proofs.Stepping.{noted, noted-number, steps-marks, entries-positions}
 
 pub record Led (c : Chosen) (x y : List ℕ) : Type 0 where
   pub bytes : Bytes y

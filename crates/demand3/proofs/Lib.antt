@@ -14,8 +14,6 @@ pub mod Progress
 pub mod Ending
 pub mod Stepping
 pub mod Accepted
-pub mod Spelling
-pub mod SoundBook
 pub mod Calls
 pub mod NextLog
 pub mod EntriesJoined

@@ -27,13 +27,14 @@ use Rattle.join.specs.Join.{joined, tooLarge}
 use Rattle.rounds.specs.Rounds.{Round, Outcome, joinRound, roundOf, next}
 use Rattle.rounds.proofs.Answers.{by-bool, Third, third-log, third-addendum, round-refused}
 use Rattle.demand3.specs.Demand3.{recovered, openIntents, NoRepeat, answered, Small, passes, Whole}
-use Rattle.demand3.proofs.Entries.{Texted, entryEvents}
+use Rattle.demand3.proofs.Entries.{Texted, spelt-texted, entryEvents}
 use Rattle.demand3.proofs.Settling.{Written, ordersAfter, Among, among-take, among-each}
 use Rattle.demand3.proofs.Progress.{one, weight-count, sum-one, sum-take, round-prog, round-weight, reached-among, among-weight, textWeight, texts-length}
+use Rattle.sound_state.proofs.Tables.{each-map}
+use Rattle.sound_state.proofs.Tabled.{text-length}
+use Rattle.sound_state.proofs.GoodBook.{state-good}
 use Rattle.demand3.proofs.Stepping.{steps-orders}
-use Rattle.demand3.proofs.Spelling.{spelt-texted}
-use Rattle.demand3.proofs.SoundBook.{text-length, orders-good}
-use Rattle.demand3.proofs.Calls.{each-map, roundSymbols, roundAddendum, Askable, Second, passed}
+use Rattle.demand3.proofs.Calls.{roundSymbols, roundAddendum, Askable, Second, passed}
 use Rattle.demand3.proofs.EntriesJoined.{Entered, Joins, add-entries, add-no-rows, joins-book, joins-events, joins-text, entries-written, written-take}
 use Rattle.demand3.proofs.Leading.{Led, led-total, led-count, led-refl}
 
@@ -67,7 +68,7 @@ reached-most r x =
     omega (arith, sum-one (roundSymbols r x), weight-count (recovered x .orders), among-weight one (reached-open r x))
 
 orders-texted : (x : List ℕ) → Bytes x → bookLayout x ≡ L.Sound → Each (λ (o : Order). Texted (o .symbol)) (recovered x .orders)
-orders-texted x b s = each-map (recovered x .orders) (λ o g. spelt-texted (o .symbol) (g .symbol)) (orders-good x b s)
+orders-texted x b s = each-map (recovered x .orders) (λ o g. spelt-texted (o .symbol) (g .symbol)) (state-good x (pos 0) b s .orders)
 
 -- ---- a round on a sound log of bytes
 module _ (broker : List BrokerOrderStatus) (small : Small (chosen broker)) (r : Round) (x : List ℕ) (bx : Bytes x) (sx : bookLayout x ≡ L.Sound)
@@ -147,7 +148,7 @@ module _ (broker : List BrokerOrderStatus) (small : Small (chosen broker)) (r : 
 
   parts : passes r x ≡ true → Done
   parts h =
-      let p = passed r x (textLength x) sx (orders-good x bx sx) h in
+      let p = passed r x bx sx h in
       let e = addendum-same broker r x shows in
       record { second = p .second; third = subst (Third r x) e (p .third); is = p .is ∙ ap (joinRound r x) e }
 

@@ -22,15 +22,16 @@ use Rattle.records.specs.declared.position.Position.{Position}
 use Rattle.marks.specs.Marks.{marksAt}
 use Rattle.marks.specs.declared.Marks.{Marks}
 use Rattle.marks.specs.declared.Pair.{Pair}
-use Rattle.effects.specs.Event.{Event, eventsOf}
+use Rattle.effects.specs.Event.{Event}
 use Rattle.effects.specs.Step.{marksBy, marksStep, positionsAt, positionsBy, positionsStep}
-use Rattle.recovery.specs.Recover.{State, firstState, step, steps, stateOf}
+use Rattle.recovery.specs.Recover.{State, step, steps}
 use Rattle.state.specs.State.{sameTruth, sameNumber, sameInt, samePair, sameMarks, samePosition, sameLists}
 use Rattle.intents.specs.declared.Chosen.{Chosen}
 use Rattle.intents.specs.declared.Chosen.the-variants as C
-use Rattle.demand3.specs.Demand3.{recovered, numberAfter, lastNumber}
+use Rattle.demand3.specs.Demand3.{numberAfter, lastNumber}
 use Rattle.demand3.proofs.Entries.{entryCheckpoint, entryEvent}
-use Rattle.demand3.proofs.MovedTables.{and-both}
+use Rattle.sound_state.proofs.Tables.{and-both}
+use Rattle.sound_state.proofs.Recovered.{timeless}
 use Rattle.demand3.proofs.Settling.{Written, end, more, ordersAfter, same-refl}
 
 -- ---- orders and positions go by themselves
@@ -38,10 +39,6 @@ pub steps-orders : (st : State) (es : List Event) → steps st es .orders ≡ or
 unfolding steps ordersAfter
 steps-orders st [] = refl
 steps-orders st (e ∷ es) = steps-orders (step e st) es
-
--- the caller's time is nowhere in the orders
-pub orders-apart : (log : List ℕ) (now : ℤ) → stateOf log now .orders ≡ recovered log .orders
-orders-apart log now = steps-orders (firstState now) (eventsOf log) ∙ sym (steps-orders (firstState (pos 0)) (eventsOf log))
 
 -- ---- the number is the last checkpoint's
 marks-number : (k : Named) (e : Event) (m : Marks) → marksBy k e m .number ≡ numberAfter k (e .number) (m .number)
@@ -71,10 +68,7 @@ markedAt k n m =
       cancelfailed = m .cancelfailed;
     }
 
-abbrev pub timeless : Marks → Marks
-timeless m = markedAt (m .checkpoint) (m .number) m
-
--- and after so many entries
+-- marks without their time, after so many entries
 abbrev pub noted : Chosen → ℕ → Marks → Marks
 noted c zero m = timeless m
 noted c (suc k) m = markedAt (entryCheckpoint c) (m .number + suc k) m

@@ -34,16 +34,19 @@ use Rattle.rounds.proofs.Answers.{by-bool, Joinable, Third, third-addendum, rou
 use Rattle.demand3.specs.Demand3.{recovered, openIntents, NoRepeat, lastNumber, added, isEntry, Follow, passes, Small, OneList, Fewer, Uncut, sameRecovered, Demand3}
 use Rattle.demand3.proofs.Settling.{Written, written-length, written-follow}
 use Rattle.demand3.proofs.Progress.{Prog, prog-distinct, weight-none, among-weight, reached-all, tally, tally-one, written-hits, textWeight, texts-length}
-use Rattle.demand3.proofs.Ending.{RefsIn, ends-same, ends-flags}
-use Rattle.demand3.proofs.Stepping.{steps-number, timeless, noted, marks-same, positions-self}
+use Rattle.sound_state.proofs.Tables.{and-both, each-map}
+use Rattle.sound_state.proofs.Tabled.{text-length}
+use Rattle.sound_state.proofs.Good.{RefsIn}
+use Rattle.sound_state.proofs.GoodBook.{state-good}
+use Rattle.sound_state.proofs.Recovered.{timeless}
+use Rattle.demand3.proofs.Ending.{ends-same, ends-flags}
+use Rattle.demand3.proofs.Stepping.{steps-number, noted, marks-same, positions-self}
 use Rattle.demand3.proofs.Accepted.{book-accepted}
-use Rattle.demand3.proofs.SoundBook.{text-length, orders-good}
-use Rattle.demand3.proofs.Calls.{each-map, roundSymbols, roundAddendum, First, first-full, first-is, Askable, Second, second-full, third-full, third-done, stages}
+use Rattle.demand3.proofs.Calls.{roundSymbols, roundAddendum, First, first-full, first-is, Askable, Second, second-full, third-full, third-done, stages}
 use Rattle.demand3.proofs.AddendumBook.{length-addendum}
 use Rattle.demand3.proofs.EntriesJoined.{add-sound, add-entries, add-no-rows, add-texts}
 use Rattle.demand3.proofs.Leading.{Led, led-marks, led-positions, led-total, led-count, led-refl, led-trans}
 use Rattle.demand3.proofs.OneRound.{Shows, chosenAddendum, addendum-same, reached-open, entered, next-count, whole-count, led-next, round-fewer}
-use Rattle.demand3.proofs.MovedTables.{and-both}
 
 -- ---- a sound book is not too large
 size-by : (a : Bool) (l : Layout) → oversizeIf a l ≡ L.Sound → a ≡ false
@@ -73,7 +76,7 @@ led-same {c} {x} {y} {z} b s l m p q =
     let marks : timeless (recovered y .marks) ≡ timeless (recovered z .marks) =
     led-marks l ∙ ap (λ (n : ℕ). noted c n (recovered x .marks)) e ∙ sym (led-marks m) in
     let refs : Each (RefsIn (length (textOf x))) (recovered x .orders) =
-    subst (λ (n : ℕ). Each (RefsIn n) (recovered x .orders)) (sym (text-length x s)) (each-map (recovered x .orders) (λ o g. g .refs) (orders-good x b s)) in
+    subst (λ (n : ℕ). Each (RefsIn n) (recovered x .orders)) (sym (text-length x s)) (each-map (recovered x .orders) (λ o g. g .refs) (state-good x (pos 0) b s .orders)) in
     let positions : recovered z .positions ≡ recovered y .positions = led-positions m ∙ sym (led-positions l) in
     and-both
     (and-both (marks-same (recovered y .marks) (recovered z .marks) marks)
@@ -167,15 +170,14 @@ module _ (broker : List BrokerOrderStatus) (small : Small (chosen broker)) where
               subst (λ (a : List ℕ). tooLarge (length a) (length (roundSymbols u x)) 0 ≡ false) (sym same)
               (not-large (length b) (length (roundSymbols u x)) 0 lb (omega arith) (omega arith));
         } in
-        let g = orders-good x bx sx in
         let q : Second u x =
         record {
           askable = a;
           room =
               never (ltb (u .addendum) (length (roundAddendum u x)))
-              (λ n. c .room (ap (λ (o : Outcome). o .answer) (first-is u x sx f) ∙ second-full u x (textLength x) sx f g a n));
+              (λ n. c .room (ap (λ (o : Outcome). o .answer) (first-is u x sx f) ∙ second-full u x bx sx f a n));
         } in
-        let is : roundOf u x ≡ joinRound u x b = stages u x (textLength x) sx g f q ∙ ap (joinRound u x) same in
+        let is : roundOf u x ≡ joinRound u x b = stages u x bx sx f q ∙ ap (joinRound u x) same in
         let en = entered broker small u x bx sx shows a in
         let k : u .k ≡ eventCount b = c .whole ∙ ap (λ (o : Outcome). eventCount (o .addendum)) is ∙ ap eventCount (third-addendum u x b) in
         let nc = add-entries en in

@@ -1,18 +1,18 @@
--- A sound book of bytes: the lengths of its tables, what its cells give, and that every order recovered from it is good. About no function.
+-- The events of a sound book of bytes are good, and so is the state that recovery makes of them. About no function.
 -- Assumes nothing.
-use Prim.Native.Nat.{ℕ, zero, suc, _+_, _-_, _*_, _/_, _%_, _^_}
+use Prim.Native.Nat.{ℕ, zero, suc, _+_, _*_, _/_, _%_, _^_}
 use mathlib.Core.Path.{_≡_}
-use mathlib.Core.List.{List, []}
+use mathlib.Core.List.{List, [], _∷_}
 use mathlib.Core.Bool.{true}
 use native.Mathlib.Omega.{arith}
-use lib.IntN.{pos}
-use lib.ListN.{length, drop}
+use lib.IntN.{ℤ}
+use lib.ListN.{drop}
 use borrow.Author.Tests.{leb-true}
 use Rattle.wire.specs.Le.{le}
 use Rattle.wire.specs.Table.{every, records}
 use Rattle.wire.specs.declared.layout.Layout.the-variants as L
 use Rattle.wire.proofs.Written.{Bytes}
-use Rattle.wire.proofs.Records.{Each, length-records}
+use Rattle.wire.proofs.Records.{Each}
 use Rattle.wire.proofs.Records as Of
 use Rattle.wire.proofs.Bools.{and-left, and-right}
 use Rattle.symbol.proofs.Text.{bytes-take, bytes-drop}
@@ -22,18 +22,16 @@ use Rattle.cell.specs.declared.AsStr.the-variants as Str
 use Rattle.cell.specs.declared.AsArray.{AsArray}
 use Rattle.cell.specs.declared.AsArray.the-variants as A
 use Rattle.book.specs.Layout.{payloadOk, cellOk, rowOk, eventOk, eventCount, rowCount, textLength, bookLayout}
-use Rattle.book.specs.Event.{eventsIn, rowsIn, textOf, symbolCell, ordersCell}
-use Rattle.effects.specs.Event.{bytesOfText, rowOf, rowsOf, eventOf, eventsOf}
+use Rattle.book.specs.Event.{eventsIn, rowsIn, textOf, symbolCell, positionsCell, ordersCell}
+use Rattle.effects.specs.Event.{Event, bytesOfText, rowOf, rowsOf, eventOf, eventsOf}
 use Rattle.effects.proofs.CellFits.{str-fits, whole-fits}
-use Rattle.recovery.specs.Recover.{firstState}
+use Rattle.recovery.specs.Recover.{State, firstState, step, steps, stateOf}
 use Rattle.book.proofs.Sound.{ArrayIn, cell-array}
-use Rattle.demand3.specs.Demand3.{recovered}
-use Rattle.demand3.proofs.JoinEvents.{row-cell-at, event-cell-at}
-use Rattle.demand3.proofs.JoinLayout.{laid}
-use Rattle.demand3.proofs.MovedTables.{every-from}
-use Rattle.demand3.proofs.Ending.{StrIn}
-use Rattle.demand3.proofs.Stepping.{steps-orders}
-use Rattle.demand3.proofs.Spelling.{Good, GoodStr, TextBytes, GoodRow, GoodRows, GoodEvent, after-good}
+use Rattle.sound_state.proofs.Tables.{every-from}
+use Rattle.sound_state.proofs.Tabled.{laid, row-cell-at, event-cell-at}
+use Rattle.sound_state.proofs.Good.{StrIn, GoodState, GoodStr, TextBytes, GoodRow, GoodRows, GoodEvent}
+use Rattle.sound_state.proofs.GoodOrders.{orders-step}
+use Rattle.sound_state.proofs.GoodPositions.{positions-step}
 
 -- ---- a cell's text lies within the book's
 str-payload : (rows text k p : ℕ) → payloadOk rows text k p ≡ true → StrIn text (asStr (cellBy k p))
@@ -92,6 +90,8 @@ module _ (rows : ℕ) (table text : List ℕ) (n : ℕ) (bt : Bytes text) (br : 
         client = str-good rows n (drop 64 e) (bytes-drop 64 e b) (event-cell-at rows n e 2 h (omega arith));
         shares = whole-fits (drop 80 e) (bytes-drop 80 e b);
         reason = str-good rows n (drop 128 e) (bytes-drop 128 e b) (event-cell-at rows n e 6 h (omega arith));
+        positions =
+            array-good rows table text n bt br ok (asArray (positionsCell e)) (cell-array rows n (drop 176 e) (event-cell-at rows n e 9 h (omega arith)));
         orders = array-good rows table text n bt br ok (asArray (ordersCell e)) (cell-array rows n (drop 192 e) (event-cell-at rows n e 10 h (omega arith)));
       }
 
@@ -102,17 +102,19 @@ module _ (rows : ℕ) (table text : List ℕ) (n : ℕ) (bt : Bytes text) (br : 
       Of.more (event-good s b (and-left (eventOk rows n s) _ h))
       (events-good k (drop 240 s) (bytes-drop 240 s b) (and-right (eventOk rows n s) (every (eventOk rows n) 240 k (drop 240 s)) h))
 
--- ---- the book
-pub text-length : (s : List ℕ) → bookLayout s ≡ L.Sound → length (textOf s) ≡ textLength s
-text-length s h = laid s h .text
+-- ---- the state
+steps-good : (n : ℕ) (es : List Event) (st : State) → Each (GoodEvent n) es → GoodState n st → GoodState n (steps st es)
+unfolding steps
+steps-good n [] st Of.none h = h
+steps-good n (e ∷ es) st (Of.more g gs) h =
+    steps-good n es (step e st) gs
+    (record { orders = orders-step n (st .orders) (h .orders) e g; positions = positions-step n e (st .positions) (g .positions) (h .positions) })
 
-pub events-count : (s : List ℕ) → length (eventsOf s) ≡ eventCount s
-events-count s = length-records (eventOf (rowsIn s) (textOf s)) 240 (eventCount s) (eventsIn s)
-
-pub orders-good : (s : List ℕ) → Bytes s → bookLayout s ≡ L.Sound → Each (Good (textLength s)) (recovered s .orders)
-orders-good s b h =
-    let k = laid s h in
-    let bt = bytes-drop (24 + 240 * eventCount s + 64 * rowCount s) s b in
-    let br = bytes-drop (24 + 240 * eventCount s) s b in
-    let es = events-good (rowCount s) (rowsIn s) (textOf s) (textLength s) bt br (k .rows) (eventCount s) (eventsIn s) (bytes-drop 24 s b) (k .events) in
-    rw (steps-orders (firstState (pos 0)) (eventsOf s)) (after-good (textLength s) (eventsOf s) [] es Of.none)
+pub state-good : (log : List ℕ) (time : ℤ) → Bytes log → bookLayout log ≡ L.Sound → GoodState (textLength log) (stateOf log time)
+state-good log time b h =
+    let k = laid log h in
+    let bt = bytes-drop (24 + 240 * eventCount log + 64 * rowCount log) log b in
+    let br = bytes-drop (24 + 240 * eventCount log) log b in
+    let es =
+    events-good (rowCount log) (rowsIn log) (textOf log) (textLength log) bt br (k .rows) (eventCount log) (eventsIn log) (bytes-drop 24 log b) (k .events) in
+    steps-good (textLength log) (eventsOf log) (firstState time) es (record { orders = Of.none; positions = Of.none })

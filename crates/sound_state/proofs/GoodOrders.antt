@@ -1,29 +1,19 @@
--- Every recovered order of a sound book is within its types, has a symbol that a text spells, and refers to texts of the book. About no function.
+-- One event's effect on the orders keeps each of them good. About no function.
 -- Assumes nothing.
-use Prim.Native.Nat.{ℕ, _+_, _-_, _%_, _^_, _≤_, _<_}
-use mathlib.Core.Path.{_≡_, refl, ap, _∙_}
+use Prim.Native.Nat.{ℕ, _%_, _^_, _<_}
 use mathlib.Core.List.{List, [], _∷_, _++_, map}
 use mathlib.Core.Bool.{Bool, true, false, cond}
 use mathlib.Core.Option.{Option, none, some}
 use native.Mathlib.Omega.{arith}
-use lib.Dec.{lit<}
 use lib.IntN.{ℤ}
 use lib.Ieee.Casts.{toSigned-in}
-use lib.ListN.{length, take, replicate}
-use lib.Seq.{take-at}
 use mir.Syntax.{w32, w64}
 use mir.Val.{SFits, ofZ}
 use mir.ValLaws.{toZ-fits}
-use Rattle.wire.specs.Le.{le}
-use Rattle.wire.specs.Table.{padded}
-use Rattle.wire.proofs.Written.{Bytes, le-lt}
-use Rattle.wire.proofs.Written as Byte
 use Rattle.wire.proofs.Records.{Each}
 use Rattle.wire.proofs.Records as Of
-use Rattle.symbol.specs.Symbol.{symbolWidth, allOf, parses, symbolOf, parsed, parsedIf, unknownSymbol, fieldOk, fieldBytes}
+use Rattle.symbol.specs.Symbol.{parsed}
 use Rattle.symbol.specs.declared.Symbol.{Symbol}
-use Rattle.symbol.proofs.Text.{text-bytes, parses-most}
-use Rattle.symbol.proofs.Field.{parsed-field}
 use Rattle.cell.specs.declared.TextRef.{TextRef}
 use Rattle.cell.specs.declared.AsStr.{AsStr}
 use Rattle.cell.specs.declared.AsStr.the-variants as Str
@@ -37,107 +27,16 @@ use Rattle.checkpoint.specs.declared.Named.{Named}
 use Rattle.checkpoint.specs.declared.Named.the-variants as K
 use Rattle.records.specs.Search.{anyWhere, changeFirst, hasText, hasId}
 use Rattle.records.specs.declared.order.Order.{Order}
-use Rattle.records.proofs.Orders.{OrderFits, RefFits, StrFits, nothing, OrderPasses}
+use Rattle.records.proofs.Orders.{RefFits, nothing}
 use Rattle.effects.specs.Event.{Row, Event}
 use Rattle.effects.specs.Step.{symbolOr, symbolFrom, refOr, wholeOr, limitOf, limitOr, newOrder, orderOfRow, ordersFrom, withClient, asFailed, asSubmitted, asFilled, intended, intentBy, failedBy, submittedBy, filledBy, ordersAt, ordersBy, ordersStep}
-use Rattle.effects.proofs.CellFits.{ref-fits, limit-fits, SymbolFits, new-fits}
+use Rattle.effects.proofs.CellFits.{ref-fits, limit-fits, new-fits}
 use Rattle.effects.proofs.Held.{each-append, client-fits, failed-fits, filled-fits}
-use Rattle.intents.specs.Intents.{symbolText}
-use Rattle.demand3.proofs.Entries.{Texted}
-use Rattle.demand3.proofs.Settling.{ordersAfter}
-use Rattle.demand3.proofs.Ending.{RefIn, StrIn, RefsIn}
+use Rattle.sound_state.proofs.Tables.{each-change}
+use Rattle.sound_state.proofs.Spelling.{Spelt, spelt-fits, unknown-spelt, parsed-spelt}
+use Rattle.sound_state.proofs.Good.{RefIn, StrIn, Good, GoodStr, TextBytes, GoodRow, GoodRows, GoodEvent}
 
--- ---- a symbol that a text spells
-pub record Spelt (y : Symbol) : Type 0 where
-  pub text : List ℕ
-  pub parse : parses text ≡ true
-  pub bytes : Bytes text
-  pub same : y ≡ symbolOf text
-
-spelt-text : (t : List ℕ) → parses t ≡ true → Bytes t → symbolText (symbolOf t) ≡ t
-unfolding padded
-spelt-text t p b =
-    ap (take (length t)) (text-bytes symbolWidth t b (parses-most t p)) ∙ take-at t (replicate (symbolWidth - length t) 0) (length t) refl
-
-pub spelt-texted : (y : Symbol) → Spelt y → Texted y
-spelt-texted y s =
-    let e = spelt-text (s .text) (s .parse) (s .bytes) in
-    rw (s .same) (record { len = ap length e; word = ap (le symbolWidth) e })
-
-spelt-fits : (y : Symbol) → Spelt y → SymbolFits y
-spelt-fits y s =
-    let m = parses-most (s .text) (s .parse) in
-    let l : length (s .text) < 256 = omega arith in
-    rw (s .same) (record { word = le-lt 8 (s .text) (s .bytes); len = l })
-
-spelt-field : (y : Symbol) → Spelt y → (u : List ℕ) → fieldOk (fieldBytes y ++ u) ≡ true
-spelt-field y s u = rw (s .same) (parsed-field (s .text) u (s .parse) (s .bytes))
-
-unknown-spelt : Spelt unknownSymbol
-unfolding parses allOf
-unknown-spelt =
-    record {
-      text = 85 ∷ 78 ∷ 75 ∷ 78 ∷ 79 ∷ 87 ∷ 78 ∷ [];
-      parse = refl;
-      bytes =
-          Byte.more (lit< tt)
-          (Byte.more (lit< tt) (Byte.more (lit< tt) (Byte.more (lit< tt) (Byte.more (lit< tt) (Byte.more (lit< tt) (Byte.more (lit< tt) Byte.none))))));
-      same = refl;
-    }
-
-parsed-spelt : (t : List ℕ) → Bytes t → Spelt (symbolOr (parsed t))
-unfolding parsed
-parsed-spelt t b = by (parses t) refl
-  where
-    by : (v : Bool) → parses t ≡ v → Spelt (symbolOr (parsedIf v t))
-    by true e = record { text = t; parse = e; bytes = b; same = refl }
-    by false e = unknown-spelt
-
--- ---- what is known of an order, where the book's text has n bytes
-pub record Good (n : ℕ) (o : Order) : Type 0 where
-  pub symbol : Spelt (o .symbol)
-  pub fits : OrderFits o
-  pub refs : RefsIn n o
-
-pub good-passes : (n : ℕ) (o : Order) → Good n o → OrderPasses o
-good-passes n o g = record { fits = g .fits; field = spelt-field (o .symbol) (g .symbol) }
-
--- of what an event or a row gives
-pub record GoodStr (n : ℕ) (a : AsStr) : Type 0 where
-  pub fits : StrFits a
-  pub within : StrIn n a
-
-abbrev pub TextBytes : Option (List ℕ) → Type 0
-TextBytes none = Unit
-TextBytes (some t) = Bytes t
-
-pub record GoodRow (n : ℕ) (r : Row) : Type 0 where
-  pub symbol : TextBytes (r .symbol)
-  pub action : GoodStr n (r .action)
-  pub amount : SFits w64 (wholeOr (r .amount))
-
-abbrev pub GoodRows : ℕ → Option (List Row) → Type 0
-GoodRows n none = Unit
-GoodRows n (some rs) = Each (GoodRow n) rs
-
-pub record GoodEvent (n : ℕ) (e : Event) : Type 0 where
-  pub symbol : TextBytes (e .symbol)
-  pub action : GoodStr n (e .action)
-  pub client : GoodStr n (e .client)
-  pub shares : SFits w64 (wholeOr (e .shares))
-  pub reason : GoodStr n (e .reason)
-  pub orders : GoodRows n (e .orders)
-
--- ---- the effects keep it
-each-change : {A : Type 0} {P : A → Type 0} (f : A → Bool) (g : A → A) → ((x : A) → P x → P (g x)) → (xs : List A) → Each P xs → Each P (changeFirst f g xs)
-unfolding changeFirst
-each-change f g k [] Of.none = Of.none
-each-change {P} f g k (x ∷ xs) (Of.more p ps) = by (f x) (each-change f g k xs ps)
-  where
-    by : (b : Bool) → Each P (changeFirst f g xs) → Each P (cond b (g x ∷ xs) (x ∷ changeFirst f g xs))
-    by true r = Of.more (k x p) ps
-    by false r = Of.more p r
-
+-- ---- the changes of one order
 client-good : (n : ℕ) (a : AsStr) → GoodStr n a → (o : Order) → Good n o → Good n (withClient a o)
 client-good n a s o g =
     record {
@@ -195,7 +94,7 @@ symbol-from : (t : Option (List ℕ)) → TextBytes t → Spelt (symbolFrom t)
 symbol-from none b = unknown-spelt
 symbol-from (some t) b = parsed-spelt t b
 
-ref-within : (n : ℕ) (a : AsStr) → StrIn n a → RefIn n (refOr a)
+pub ref-within : (n : ℕ) (a : AsStr) → StrIn n a → RefIn n (refOr a)
 ref-within n (Str.Is r) h = h
 ref-within n Str.Nothing h = omega arith
 
@@ -245,9 +144,9 @@ module _ (n : ℕ) (os : List Order) (h : Each (Good n) os) where
   filled-all I64.Nothing = h
   filled-all (I64.Is z) = each-change (hasId z) asFilled (filled-good n) os h
 
-  step-good : (e : Event) → GoodEvent n e → Each (Good n) (ordersStep e os)
+  pub orders-step : (e : Event) → GoodEvent n e → Each (Good n) (ordersStep e os)
   unfolding ordersBy ordersAt
-  step-good e g = named (e .checkpoint)
+  orders-step e g = named (e .checkpoint)
     where
       by : (b₁ b₂ b₃ b₄ b₅ : Bool) → Each (Good n)
           (cond b₁ (ordersFrom (e .orders) os)
@@ -265,8 +164,3 @@ module _ (n : ℕ) (os : List Order) (h : Each (Good n) os) where
       named (K.Is k) =
           by (sameCheckpoint k DiffComputed) (sameCheckpoint k OrderIntent) (sameCheckpoint k OrderFailed)
           (sameCheckpoint k OrderSubmitted) (sameCheckpoint k OrderFilled)
-
-pub after-good : (n : ℕ) (es : List Event) (os : List Order) → Each (GoodEvent n) es → Each (Good n) os → Each (Good n) (ordersAfter es os)
-unfolding ordersAfter
-after-good n [] os Of.none h = h
-after-good n (e ∷ es) os (Of.more g gs) h = after-good n es (ordersStep e os) gs (step-good n os h e g)

@@ -1,0 +1,10 @@
+pub mod Tables
+pub mod Tabled
+pub mod Spelling
+pub mod Good
+pub mod GoodOrders
+pub mod GoodPositions
+pub mod GoodBook
+pub mod PositionBack
+pub mod Recovered
+pub mod StateSound

@@ -3,10 +3,8 @@
 use Prim.Native.Nat.{ℕ, suc, _+_, _*_, _^_, _≤_, _<_}
 use mathlib.Core.Path.{_≡_, refl, sym, ap, _∙_}
 use mathlib.Core.List.{List, [], _∷_, _++_, append-assoc}
-use mathlib.Core.Bool.{Bool, true, false, _&&_}
+use mathlib.Core.Bool.{true, false}
 use native.Mathlib.Omega.{arith}
-use lib.Dec.{T, ltb}
-use borrow.Author.Tests.{ltb-true}
 use lib.IntN.{ℤ}
 use lib.ListN.{length, length-append}
 use lib.Seq.{drop-at}
@@ -30,6 +28,7 @@ use Rattle.intents.specs.declared.Chosen.the-variants as C
 use Rattle.demand3.proofs.Entries.{Texted, entryEvent, entryEvents}
 use Rattle.demand3.proofs.BookOf.{small, Reads, length-book, book-reads, book-sound}
 use Rattle.symbol.proofs.Text.{bytes-take}
+use Rattle.sound_state.proofs.Tables.{bytes-if}
 use Rattle.demand3.proofs.MovedTables.{bytes-append, bytes-number, all, every-all}
 use Rattle.demand3.proofs.JoinLayout.{bytes-book}
 use Rattle.demand3.proofs.EntryBytes.{IdFits, entry-read, entry-passes, length-entry, bytes-entry}
@@ -86,15 +85,6 @@ module _ (c : Chosen) (time : ℤ) where
         (ap (λ (es : List A). g number first y ∷ es) (table-read (suc number) ys (p ++ entryText c y) t each split' next))
 
 -- ---- the texts are bytes
-bytes-if : (s : List ℕ) → T (allOf (λ (b : ℕ). ltb b 256) s) → Bytes s
-unfolding allOf
-bytes-if [] h = Wr.none
-bytes-if (b ∷ s) h = bytes-more (ltb b 256) (allOf (λ (b : ℕ). ltb b 256) s) refl h (bytes-if s)
-  where
-    bytes-more : (x z : Bool) → ltb b 256 ≡ x → T (x && z) → (T z → Bytes s) → Bytes (b ∷ s)
-    bytes-more true z e h k = Wr.more (ltb-true b 256 e) (k h)
-    bytes-more false z e h k = absurd h
-
 bytes-name : (c : Chosen) → Bytes (entryName c)
 unfolding eventName allOf
 bytes-name (C.Is id) = bytes-if (eventName OrderSubmitted) tt

@@ -32,13 +32,13 @@ lines [] = []
 lines (s ∷ ss) = ascii s ++ newline ++ lines ss
 
 -- document 01's book, with the orders cell of its diff_computed; and a run that stopped before its positions were answered
-opening : List EventParts
+unfoldable pub opening : List EventParts
 opening = numbered "run_started" 1 ∷ numbered "positions_intent" 2 ∷ []
 
-answeredRun : EventParts → List ℕ
+unfoldable pub answeredRun : EventParts → List ℕ
 answeredRun diff = bookBytes (opening ++ (numbered "positions_result" 3 ∷ diff ∷ [])) [] []
 
-sample : List ℕ
+unfoldable pub sample : List ℕ
 sample = answeredRun (numberedWith "diff_computed" 4 10 (part 6 0))
 
 ordersNone : List ℕ
@@ -48,7 +48,7 @@ stopped : List ℕ
 stopped = bookBytes opening [] []
 
 -- a sheet of these orders, each an OrderId with nothing remaining and state 0, and no positions
-sheetOf : List ℕ → List ℕ
+unfoldable pub sheetOf : List ℕ → List ℕ
 sheetOf ids =
     bytesOf 4 (length ids) ++ bytesOf 4 24 ++ bytesOf 4 0 ++ bytesOf 4 (24 + 24 * length ids) ++ bytesOf 8 0
     ++ encoded (λ (id : ℕ). bytesOf 8 id ++ bytesOf 16 0) ids

@@ -92,7 +92,7 @@ unrefused true st x e h k = let z : 0 ≡ recoveryNumber x = ap recoveryNumber e
 unrefused false st x e h k = let z : 3 ≡ recoveryNumber x = ap recoveryNumber e in absurd (omega arith)
 
 -- the records at the start of a buffer
-front : {A : Type 0} (f : A → List ℕ) (w : ℕ) → ((x : A) → length (f x) ≡ w) → (n : ℕ) (xs : List A) → take (w * length xs) (padded n (encoded f xs)) ≡ encoded f xs
+pub front : {A : Type 0} (f : A → List ℕ) (w : ℕ) → ((x : A) → length (f x) ≡ w) → (n : ℕ) (xs : List A) → take (w * length xs) (padded n (encoded f xs)) ≡ encoded f xs
 unfolding padded
 front f w size n xs = take-at (encoded f xs) (replicate (n - length (encoded f xs)) 0) (w * length xs) (length-encoded f w size xs)
 

@@ -4,7 +4,7 @@ use Prim.Native.Nat.{ℕ, _*_}
 use mathlib.Core.List.{List, _++_, map}
 use mathlib.Core.Bool.{Bool, true, false, cond}
 use lib.Dec.{leb, ltb}
-use lib.IntN.{pos}
+use lib.IntN.{ℤ, pos}
 use lib.ListN.{length, take, replicate}
 use Rattle.wire.specs.Layout.{oversizeIf}
 use Rattle.wire.specs.Table.{padded}
@@ -58,12 +58,15 @@ recoveredText R.Oversize v orders positions sheet = refusedLine 1
 recoveredText R.Broken v orders positions sheet = refusedLine 2
 recoveredText R.NoRoom v orders positions sheet = refusedLine 3
 
--- no line depends on the caller's time
+-- at a caller's time
+abbrev pub bookTextAt : ℤ → List ℕ → List ℕ → List ℕ
+bookTextAt time book sheet =
+    recoveredText (recovery book time 65536 65536) (bookVerdict book) (ordersOut book time 65536 65536) (positionsOut book time 65536 65536) sheet
+
+-- no line depends on that time (`any-time`, crate `sound_reply`)
 unfoldable pub bookText : List ℕ → List ℕ → List ℕ
 unfolding lentText
-bookText book sheet =
-    recoveredText (recovery book (pos 0) 65536 65536) (bookVerdict book) (ordersOut book (pos 0) 65536 65536)
-    (positionsOut book (pos 0) 65536 65536) sheet
+bookText book sheet = bookTextAt (pos 0) book sheet
 
 -- ---- the reply
 abbrev pub unlessRefused : Layout → List ℕ → List ℕ

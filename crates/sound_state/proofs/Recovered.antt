@@ -78,16 +78,18 @@ unfolding marksBy marksAt
 marks-by K.Nothing e m n h = h
 marks-by (K.Is k) e m n h = ap (λ (x : Marks). timeless (marksAt k (e .number) (e .time) (e .equity) (e .success) x)) h
 
-steps-but-time : (es : List Event) (a b : State) → ButTime a b → ButTime (steps a es) (steps b es)
-unfolding steps
-steps-but-time [] a b h = h
-steps-but-time (e ∷ es) a b h =
-    steps-but-time es (step e a) (step e b)
-    (record {
+pub step-but-time : (e : Event) (a b : State) → ButTime a b → ButTime (step e a) (step e b)
+step-but-time e a b h =
+    record {
       marks = marks-by (e .checkpoint) e (a .marks) (b .marks) (h .marks);
       orders = ap (ordersStep e) (h .orders);
       positions = ap (positionsStep e) (h .positions);
-    })
+    }
+
+steps-but-time : (es : List Event) (a b : State) → ButTime a b → ButTime (steps a es) (steps b es)
+unfolding steps
+steps-but-time [] a b h = h
+steps-but-time (e ∷ es) a b h = steps-but-time es (step e a) (step e b) (step-but-time e a b h)
 
 pub time-apart : (log : List ℕ) (now then : ℤ) → ButTime (stateOf log now) (stateOf log then)
 time-apart log now then = steps-but-time (eventsOf log) (firstState now) (firstState then) (record { marks = refl; orders = refl; positions = refl })

@@ -1,0 +1,4 @@
+pub mod RoomEnough
+pub mod Timeless
+pub mod Answered
+pub mod SampleMeets

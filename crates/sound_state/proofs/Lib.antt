@@ -5,6 +5,5 @@ pub mod Good
 pub mod GoodOrders
 pub mod GoodPositions
 pub mod GoodBook
-pub mod PositionBack
 pub mod Recovered
 pub mod StateSound

@@ -15,6 +15,7 @@ use Rattle.records.specs.Record.{orderBytes, ordersIn, ordersLayout, positionBy
 use Rattle.records.specs.declared.order.Order.{Order}
 use Rattle.records.specs.declared.position.Position.{Position}
 use Rattle.records.proofs.Orders.{OrderPasses, orders-in, orders-sound}
+use Rattle.records.proofs.Positions.{PositionFits, PositionPasses, positions-in, positions-sound}
 use Rattle.marks.specs.Marks.{marksAt}
 use Rattle.marks.specs.declared.Marks.{Marks}
 use Rattle.effects.specs.Event.{Event, eventsOf}
@@ -24,7 +25,6 @@ use Rattle.sound_state.proofs.Tables.{each-map}
 use Rattle.sound_state.proofs.Spelling.{spelt-fits, spelt-field, spelt-wide}
 use Rattle.sound_state.proofs.Good.{Good, GoodPosition}
 use Rattle.sound_state.proofs.GoodBook.{state-good}
-use Rattle.sound_state.proofs.PositionBack.{PositionFits, PositionPasses, positions-in, positions-sound}
 
 -- ---- records
 pub good-passes : (n : ℕ) (o : Order) → Good n o → OrderPasses o

@@ -14,7 +14,7 @@
  * The caller's duties. No code of the library can test these:
  *  - A pointer is to as many bytes as its length says, and nobody else writes there during the call.
  *  - An output overlaps no input and no other output. Outputs are cleared first, so an input under one is lost: a round whose `joined` is the log itself
- *    zeroes the log and returns 2, and a reply whose `text` is the book is "refused 2". What an overlap gives is promised by nothing.
+ *    zeroes the log and returns 2, and a reply whose `text` is the book is "refused 2". No promise covers an overlap.
  *    Two inputs may overlap. The marks of desk_step are altered in place and count as an output.
  *  - Floating point is as a C program starts: rounding to nearest, subnormal numbers neither flushed nor read as zero (-ffast-math at link time changes
  *    that), no exception unmasked. These calls do f64 arithmetic: desk_reconstruct_state, desk_step, desk_reply, desk_round, desk_reconcile,

@@ -40,8 +40,8 @@ fn reconciling_numbers(tally: &mut [u64], b: &[u8], refusal: u32, lent: u32, ans
     tally::compared(tally, tally::RECONCILINGS, 16, agrees);
 }
 
-// The join into so many bytes.
-fn join_in(book: &[u8], addendum: &[u8], k: u64, out: &mut [u8], bytes: u64) -> Numbers {
+// The join of two books into so many bytes.
+pub fn join_in(book: &[u8], addendum: &[u8], k: u64, out: &mut [u8], bytes: u64) -> Numbers {
     let n = io::count(lent::room(bytes), out);
     round_answers::joining_numbers(join::join(book, addendum, k, &mut out[..n]))
 }

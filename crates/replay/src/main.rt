@@ -4,6 +4,7 @@
 // It prints a line for each answer that differs, by the case's number, from 0, and the section's, then how many answers of each sort were compared.
 mod actions;
 mod addenda;
+mod joins;
 mod logs;
 mod recover;
 
@@ -21,6 +22,7 @@ fn by_kind(tally: &mut [u64], kind: u32, b: &[u8]) {
         2 => drifts::replay(tally, b),
         3 => conversions::replay(tally, b),
         4 => actions::replay(tally, b),
+        5 => joins::replay(tally, b),
         _ => tally::differs(tally, 0),
     }
 }

@@ -1,16 +1,19 @@
-//! The oracle's own reading of document 01: book, sheet, records, addendum, join, state equality, held value, drift rows
-//! and the refusals around them. None of it is the original's: where the original has a counterpart, the crate `oracle`
-//! asks the original, and uses this crate only to read its input and to write its answers as bytes. [`reading`] alone
-//! answers what the original answers too: a quick judge for the fuzz target, which asks the original beside it.
+//! The oracle's own reading of document 01: book, sheet, records, addendum, join, state equality, held value, drift rows,
+//! the desk's reply and the refusals around them. None of it is the original's: where the original has a counterpart, the crate
+//! `oracle` asks the original, and uses this crate only to read its input and to write its answers as bytes. [`reading`] alone
+//! answers what the original answers too: a quick judge for the fuzz target, which asks the original beside it, and for
+//! `oracle/rules`, which changes one rule of this crate at a time.
 //!
 //! Written from document 01 apart from the Rattle code, so that a fault in one reading shows as a difference.
 
+pub mod answers;
 pub mod book;
 pub mod drift;
 pub mod entries;
 pub mod join;
 pub mod reading;
 pub mod records;
+pub mod reply;
 pub mod sheet;
 pub mod symbol;
 

@@ -1,39 +1,15 @@
-//! The desk program's printed reply: document 01's form around the original's verdict, state, action and report.
+//! The desk program's reply: document 01's form (`doc01::reply`) around the original's verdict, state, action and report.
 
-use std::fmt::Write;
+use doc01::Sheet;
 
-use doc01::records::{DISCREPANCY, ORDER, POSITION};
-use doc01::{Book, Discrepancy, Refusal, Sheet, State, ACTIONS, CHECKPOINTS};
+pub use doc01::reply::{reply_by, Said, LENT};
 
 use crate::log::Log;
 use crate::{fault, judge, original};
 
-/// The most bytes of a file, and the room of each output.
-pub const LENT: usize = 65_536;
-
-/// What the desk says of a book and a sheet that it reads.
-pub struct Said {
-    pub verdict: (u32, u32, u32),
-    pub state: State,
-    pub action: u32,
-    pub report: Vec<Discrepancy>,
-}
-
 /// The reply to `book.bin` and `sheet.bin`; a missing file is read as empty.
 pub fn reply(book: Option<&[u8]>, sheet: Option<&[u8]>) -> String {
     judge::reply(book.unwrap_or(&[]), sheet.unwrap_or(&[]))
-}
-
-/// The same with what a given reading says.
-pub fn reply_by(asked: impl Fn(&Book, &Sheet) -> Said, book: &[u8], sheet: &[u8]) -> String {
-    lines(asked, book, sheet).unwrap_or_else(|refusal| format!("refused {refusal}\n"))
-}
-
-fn read<T>(bytes: &[u8], parse: fn(&[u8]) -> Result<T, Refusal>) -> Result<T, Refusal> {
-    if bytes.len() > LENT {
-        return Err(1);
-    }
-    parse(bytes)
 }
 
 /// What the original says.
@@ -43,26 +19,4 @@ pub fn of_log(log: &Log, sheet: &Sheet) -> Said {
     let recovered = log.recovered().as_ref().unwrap_or_else(|_| said("recovery"));
     let report = original::compare_recovered(&log.book, recovered, sheet).unwrap_or_else(|_| said("comparison"));
     Said { verdict, state: recovered.state.clone(), action: recovered.action, report }
-}
-
-fn lines(asked: impl Fn(&Book, &Sheet) -> Said, book: &[u8], sheet: &[u8]) -> Result<String, Refusal> {
-    let book = read(book, Book::parse)?;
-    let sheet = read(sheet, Sheet::parse)?;
-    let Said { verdict, state, action, report } = asked(&book, &sheet);
-    if state.orders.len() * ORDER > LENT || state.positions.len() * POSITION > LENT || report.len() * DISCREPANCY > LENT {
-        return Err(3);
-    }
-    let mut out = String::new();
-    let mut line = |text: String| writeln!(out, "{text}").expect("a String takes it");
-    line(format!("verdict {} {} {}", verdict.0, verdict.1, verdict.2));
-    let action = ACTIONS.get(action as usize).unwrap_or_else(|| fault("an action without a name"));
-    line(format!("action {action}"));
-    line(format!("last {} {}", CHECKPOINTS[state.marks.checkpoint as usize - 1], state.marks.number));
-    line(format!("orders {}", state.orders.len()));
-    line(format!("positions {}", state.positions.len()));
-    line(format!("report {}", report.len()));
-    for discrepancy in &report {
-        line(discrepancy.kind.to_string());
-    }
-    Ok(out)
 }

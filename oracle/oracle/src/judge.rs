@@ -5,12 +5,14 @@
 //! holds the bytes given here and zeros behind them, or zeros alone on a refusal.
 
 use std::cell::RefCell;
-use std::rc::Rc;
 
-use doc01::drift as rows;
-use doc01::join::join as joined;
-use doc01::records::{self, DISCREPANCY, ORDER, POSITION};
-use doc01::{Book, Cell, Marks, Refusal, Sheet, State};
+use doc01::answers;
+use doc01::entries::Entry;
+use doc01::records::{ORDER, POSITION};
+use doc01::{Book, Cell, Discrepancy, Marks, Refusal, Sheet, State};
+
+pub use doc01::answers::{held_value, join, Addendum, DriftAnswer};
+pub use recorded::Recovery;
 
 use crate::log::Log;
 use crate::original::{self, Ran, Reconciled};
@@ -19,14 +21,6 @@ use crate::{desk, fault, Panicked};
 /// The original's answer where it must not panic.
 fn said<T>(ran: Ran<T>) -> T {
     ran.unwrap_or_else(|Panicked(text)| fault(&format!("the original panicked: {text}")))
-}
-
-fn room(needed: usize, lent: usize) -> Result<(), Refusal> {
-    if needed > lent {
-        Err(3)
-    } else {
-        Ok(())
-    }
 }
 
 /// The layout of a book alone.
@@ -42,14 +36,6 @@ pub fn validate_checkpoints_from_parsed(book: &[u8]) -> (u32, u32, u32) {
     }
 }
 
-#[derive(Debug, Clone, PartialEq, Eq)]
-pub struct Recovery {
-    pub marks: Marks,
-    pub orders: Vec<u8>,
-    pub positions: Vec<u8>,
-    pub action: u32,
-}
-
 pub fn reconstruct_state(book: &[u8], time: i64, orders_room: usize, positions_room: usize) -> Result<Recovery, Refusal> {
     let log = Log::of(book)?;
     doc01::time(time)?;
@@ -60,9 +46,7 @@ pub fn reconstruct_state(book: &[u8], time: i64, orders_room: usize, positions_r
     });
     let most = longest.max().unwrap_or(0) + log.book.events.len();
     if orders_room < most * ORDER || positions_room < most * POSITION {
-        let (orders, positions) = said(log.peak());
-        room(orders * ORDER, orders_room)?;
-        room(positions * POSITION, positions_room)?;
+        answers::fits(said(log.peak()), orders_room, positions_room)?;
     }
     let (state, action) = said(log.state(time));
     Ok(Recovery { marks: state.marks, orders: state.order_bytes(), positions: state.position_bytes(), action })
@@ -88,9 +72,29 @@ pub fn step(book: &[u8], time: i64, next: usize) -> Result<Option<Marks>, Refusa
     Ok(Some(said(log.marks_after(time, next + 1))))
 }
 
+/// What the original says of a lent state: the action, the report, the entries with the count of unreached intents.
+pub fn action_of(state: &State) -> u32 {
+    said(original::action(state))
+}
+
+pub fn report_of(state: &State, sheet: &Sheet) -> Vec<Discrepancy> {
+    said(original::compare(state, sheet))
+}
+
+pub fn entries_of(state: &State, sheet: &Sheet, queries: &[u8]) -> (Vec<Entry>, u64) {
+    counted(reconciled(state, sheet, queries), state)
+}
+
+fn counted(reconciled: Reconciled, state: &State) -> (Vec<Entry>, u64) {
+    let unreached = said(reconciled.unreached);
+    if reconciled.entries.len() as u64 + unreached != state.intents() as u64 {
+        fault("entries and unreached do not sum to the intents");
+    }
+    (reconciled.entries, unreached)
+}
+
 pub fn determine_recovery_action(marks: &Marks, orders: &[u8]) -> Result<u32, Refusal> {
-    let state = State { marks: *marks, orders: records::orders(orders)?, positions: Vec::new() };
-    Ok(said(original::action(&state)))
+    answers::action(action_of, &marks.bytes(), orders)
 }
 
 /// The report's records.
@@ -101,19 +105,7 @@ pub fn compare_broker_state(
     sheet: &[u8],
     report_room: usize,
 ) -> Result<Vec<u8>, Refusal> {
-    Sheet::limits(sheet)?;
-    let state = State { marks: *marks, orders: records::orders(orders)?, positions: records::positions(positions)? };
-    let sheet = Sheet::parse(sheet)?;
-    let report = said(original::compare(&state, &sheet));
-    room(report.len() * DISCREPANCY, report_room)?;
-    Ok(records::report_bytes(&report))
-}
-
-#[derive(Debug, Clone, PartialEq, Eq)]
-pub struct Addendum {
-    pub book: Vec<u8>,
-    pub entries: u64,
-    pub unreached: u64,
+    answers::compare(report_of, &marks.bytes(), orders, positions, sheet, report_room)
 }
 
 pub fn reconcile_incomplete_intents(
@@ -152,34 +144,8 @@ pub fn reconciled_by(
     time: i64,
     book_room: usize,
 ) -> Result<Addendum, Refusal> {
-    Sheet::limits(sheet)?;
-    let state = State { marks: *marks, orders: records::orders(orders)?, positions: Vec::new() };
-    let sheet = Sheet::parse(sheet)?;
-    doc01::time(time)?;
-    if marks.number as u128 + 1 + state.intents() as u128 > u64::MAX as u128 {
-        return Err(8);
-    }
-    let reconciled = asked(&state, &sheet, queries);
-    let unreached = said(reconciled.unreached.clone());
-    let entries = reconciled.entries.len() as u64;
-    if entries + unreached != state.intents() as u64 {
-        fault("entries and unreached do not sum to the intents");
-    }
-    let book = reconciled.addendum(time);
-    if book.length() > doc01::book::MAX_BYTES || book.events.len() > doc01::book::MAX_COUNT as usize {
-        return Err(1);
-    }
-    room(book.length(), book_room)?;
-    Ok(Addendum { book: book.bytes(), entries, unreached })
-}
-
-/// The joined book's bytes. Document 01's alone.
-pub fn join(a: &[u8], b: &[u8], k: u64, book_room: usize) -> Result<Vec<u8>, Refusal> {
-    Book::limits(a)?;
-    Book::limits(b)?;
-    let result = joined(&Log::of(a)?.book, &Log::of(b)?.book, k)?;
-    room(result.length(), book_room)?;
-    Ok(result.bytes())
+    let asked = |state: &State, sheet: &Sheet, queries: &[u8]| counted(asked(state, sheet, queries), state);
+    answers::reconcile(asked, &marks.bytes(), orders, sheet, queries, time, book_room)
 }
 
 /// A recovered state as it is lent: its book, marks and records.
@@ -193,19 +159,11 @@ pub struct Lent<'a> {
 
 /// State equality. Document 01's alone.
 pub fn states_equal(x: Lent, y: Lent) -> Result<bool, Refusal> {
-    Book::limits(x.book)?;
-    Book::limits(y.book)?;
-    let parse = |l: Lent| -> Result<(Rc<Log>, State), Refusal> {
-        let log = Log::of(l.book)?;
-        let state = State { marks: *l.marks, orders: records::orders(l.orders)?, positions: records::positions(l.positions)? };
-        if !state.within(log.book.text.len()) {
-            return Err(2);
-        }
-        Ok((log, state))
-    };
-    let (a, x) = parse(x)?;
-    let (b, y) = parse(y)?;
-    Ok(records::equal(&a.book, &x, &b.book, &y))
+    let (m, n) = (x.marks.bytes(), y.marks.bytes());
+    answers::states_equal(
+        answers::Lent { book: x.book, marks: &m, orders: x.orders, positions: x.positions },
+        answers::Lent { book: y.book, marks: &n, orders: y.orders, positions: y.positions },
+    )
 }
 
 pub fn max_checkpoint_sequence(book: &[u8]) -> Result<u64, Refusal> {
@@ -216,37 +174,17 @@ pub fn check_window_already_complete(book: &[u8], id: &[u8]) -> Result<Option<u6
     Ok(said(Log::of(book)?.window_complete(id)))
 }
 
-#[derive(Debug, Clone, PartialEq, Eq)]
-pub struct DriftAnswer {
-    pub entries: Vec<u8>,
-    pub tracking: u64,
-}
-
 /// Drift. Refusal 12 is document 01's; the original must panic exactly there.
 pub fn drift(holdings: &[u8], targets: &[u8], prices: &[u8], equity: i64, entry_room: usize) -> Result<DriftAnswer, Refusal> {
-    rows::limit(holdings, POSITION)?;
-    rows::limit(targets, rows::ROW)?;
-    rows::limit(prices, rows::ROW)?;
-    let (holdings, targets, prices) = (records::positions(holdings)?, rows::targets(targets)?, rows::prices(prices)?);
-    rows::weights(&targets)?;
-    let overflow = rows::overflow(&holdings, &targets, &prices, equity);
-    let drift = original::drift(&holdings, &targets, &prices, equity);
-    match (overflow, drift) {
-        (Err(refusal), Err(_)) => Err(refusal),
-        (Ok(()), Ok(drift)) => {
-            room(drift.entries.len() * rows::ENTRY, entry_room)?;
-            Ok(DriftAnswer { entries: rows::entry_bytes(&drift.entries), tracking: drift.tracking })
+    let asked = |holdings: &[_], targets: &[_], prices: &[_], equity, overflow| {
+        match (overflow, original::drift(holdings, targets, prices, equity)) {
+            (Err(refusal), Err(_)) => Err(refusal),
+            (Ok(()), Ok(drift)) => Ok((drift.entries, f64::from_bits(drift.tracking))),
+            (Ok(()), Err(Panicked(text))) => fault(&format!("drift panics without refusal 12: {text}")),
+            (Err(_), Ok(_)) => fault("drift answers under refusal 12"),
         }
-        (Ok(()), Err(Panicked(text))) => fault(&format!("drift panics without refusal 12: {text}")),
-        (Err(_), Ok(_)) => fault("drift answers under refusal 12"),
-    }
-}
-
-/// Held value. Document 01's alone.
-pub fn held_value(holdings: &[u8], prices: &[u8]) -> Result<i64, Refusal> {
-    rows::limit(holdings, POSITION)?;
-    rows::limit(prices, rows::ROW)?;
-    rows::held(&records::positions(holdings)?, &rows::prices(prices)?)
+    };
+    answers::drift(asked, holdings, targets, prices, equity, entry_room)
 }
 
 pub fn f64_to_fixed_checked(value: u64, scale: u64) -> Result<i64, Refusal> {

@@ -19,6 +19,8 @@ pub mod log;
 pub mod original;
 pub mod record;
 pub mod reference;
+pub mod rule_cases;
+pub mod script;
 
 pub use doc01::{Book, Sheet, State};
 pub use original::{

@@ -11,7 +11,7 @@ const USAGE: &str = "usage: oracle run KIND SEED COUNT [lines]   answers COUNT c
        oracle source                           says whether the build used the bytes of NANOBOOK_SRC
        oracle reference                        prints M1 to M12 with what the original answers
        oracle differences                      prints each row of docs/DIFFERENCES.md with what the original answers
-       oracle record FILE                      writes the recorded list
+       oracle record FILE NAMES                writes the recorded list and its cases' names
        oracle replay FILE                      answers the recorded list again and compares
        oracle digests FILE                     writes the digests of the answers that edits are held against
        oracle notice FILE RECORDED             prints the first case whose answer differs, in the cases and in the list
@@ -27,7 +27,7 @@ fn main() -> ExitCode {
         ["source"] => source(),
         ["reference"] => reference::print(),
         ["differences"] => differences::print(),
-        ["record", file] => record::write(file),
+        ["record", file, names] => record::write(file, names),
         ["replay", file] => record::replay(file),
         ["digests", file] => digests(file),
         ["notice", file, recorded] => notice(file, recorded),

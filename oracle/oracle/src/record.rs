@@ -1,16 +1,11 @@
-//! The recorded list: cases with their answers in one file, laid out as crates/replay/FORMAT.md says.
+//! The recorded list's cases, answered by the original. The crate `recorded` lays them out as crates/replay/FORMAT.md says.
 
-use std::panic::{catch_unwind, AssertUnwindSafe};
-
-use doc01::{Book, Marks};
+use doc01::answers::{self, Addendum, DriftAnswer, Lent};
+use doc01::{Book, Refusal};
 use generator::{Case, DriftCase, FixedCase, LogCase, RecordsCase, Side};
+use recorded::{differences, stored, words, Inputs, Judge, Recovery, Stored};
 
-use crate::answer::lent;
-use crate::judge::{self, Lent};
-use crate::{desk, original, reference};
-
-/// Room for everything.
-const AMPLE: usize = 1 << 21;
+use crate::{judge, original, reference, rule_cases};
 
 /// Which cases are recorded: kind, seed, how many, the most bytes of their book.
 const DRAWN: [(&str, u64, u64, usize); 8] = [
@@ -35,144 +30,90 @@ const ADDED: [(&str, u64, u64); 7] = [
     ("drift", 1, 134),
 ];
 
-struct Body(Vec<u8>);
+/// The original, and document 01's reading where it has no answer.
+struct Original;
 
-impl Body {
-    fn section(&mut self, bytes: &[u8]) {
-        self.0.extend((bytes.len() as u64).to_le_bytes());
-        self.0.extend(bytes);
-        self.0.resize(self.0.len().next_multiple_of(8), 0);
+impl Judge for Original {
+    fn verdict(&self, book: &[u8]) -> (u32, u32, u32) {
+        judge::validate_checkpoints_from_parsed(book)
     }
 
-    fn numbers(&mut self, numbers: &[u64]) {
-        let bytes: Vec<u8> = numbers.iter().flat_map(|n| n.to_le_bytes()).collect();
-        self.section(&bytes);
+    fn highest(&self, book: &[u8]) -> Result<u64, Refusal> {
+        judge::max_checkpoint_sequence(book)
+    }
+
+    fn window(&self, book: &[u8], id: &[u8]) -> Result<Option<u64>, Refusal> {
+        judge::check_window_already_complete(book, id)
+    }
+
+    fn reply(&self, book: &[u8], sheet: &[u8]) -> String {
+        judge::reply(book, sheet)
+    }
+
+    fn recover(&self, book: &[u8], time: i64, orders_room: usize, positions_room: usize) -> Result<Recovery, Refusal> {
+        judge::reconstruct_state(book, time, orders_room, positions_room)
+    }
+
+    fn action(&self, marks: &[u8], orders: &[u8]) -> Result<u32, Refusal> {
+        answers::action(judge::action_of, marks, orders)
+    }
+
+    fn compare(&self, marks: &[u8], orders: &[u8], positions: &[u8], sheet: &[u8], room: usize) -> Result<Vec<u8>, Refusal> {
+        answers::compare(judge::report_of, marks, orders, positions, sheet, room)
+    }
+
+    fn reconcile(&self, marks: &[u8], orders: &[u8], sheet: &[u8], queries: &[u8], time: i64, room: usize) -> Result<Addendum, Refusal> {
+        answers::reconcile(judge::entries_of, marks, orders, sheet, queries, time, room)
+    }
+
+    fn join(&self, a: &[u8], b: &[u8], k: u64, room: usize) -> Result<Vec<u8>, Refusal> {
+        judge::join(a, b, k, room)
+    }
+
+    fn equal(&self, x: Lent, y: Lent) -> Result<bool, Refusal> {
+        answers::states_equal(x, y)
+    }
+
+    fn drift(&self, holdings: &[u8], targets: &[u8], prices: &[u8], equity: i64, room: usize) -> Result<DriftAnswer, Refusal> {
+        judge::drift(holdings, targets, prices, equity, room)
+    }
+
+    fn held(&self, holdings: &[u8], prices: &[u8]) -> Result<i64, Refusal> {
+        judge::held_value(holdings, prices)
+    }
+
+    fn fixed(&self, value: u64, scale: u64) -> Result<i64, Refusal> {
+        judge::f64_to_fixed_checked(value, scale)
+    }
+
+    fn cents(&self, value: u64) -> Result<i64, Refusal> {
+        judge::f64_cents_checked(value)
+    }
+
+    fn cast(&self, value: u64) -> i64 {
+        original::limit(value)
     }
 }
 
-/// The refusal's number, or 0.
-fn number<T>(result: &Result<T, u32>) -> u64 {
-    result.as_ref().err().map_or(0, |r| *r as u64)
-}
-
-/// The case's inputs and answers.
-fn body(case: &Case) -> Vec<u8> {
-    let mut out = Body(Vec::new());
-    match case {
-        Case::Log(log) => log_body(&mut out, log),
-        Case::Records(records) => records_body(&mut out, records),
-        Case::Drift(drift) => drift_body(&mut out, drift),
-        Case::Fixed(fixed) => fixed_body(&mut out, fixed),
-    }
-    out.0
-}
-
-fn log_body(out: &mut Body, case: &LogCase) {
-    for input in [&case.book, &case.sheet, &case.queries, &case.window] {
-        out.section(input);
-    }
-    let [orders_room, positions_room, report_room, addendum_room, join_room] = case.rooms;
-    let mut numbers = vec![case.time as u64, case.entry_time as u64, case.k];
-    numbers.extend(case.rooms.map(|r| r as u64));
-    out.numbers(&numbers);
-
-    let (refusal, event, checkpoint) = judge::validate_checkpoints_from_parsed(&case.book);
-    out.numbers(&[refusal, event, checkpoint].map(u64::from));
-    let max = judge::max_checkpoint_sequence(&case.book);
-    out.numbers(&[number(&max), max.unwrap_or(0)]);
-    let window = judge::check_window_already_complete(&case.book, &case.window);
-    let complete = window.unwrap_or(None);
-    out.numbers(&[number(&window), complete.is_some() as u64, complete.unwrap_or(0)]);
-    out.section(desk::reply(Some(&case.book), Some(&case.sheet)).as_bytes());
-
-    let recovery = judge::reconstruct_state(&case.book, case.time, AMPLE, AMPLE);
-    let tight = judge::reconstruct_state(&case.book, case.time, orders_room, positions_room);
-    out.numbers(&[number(&recovery), number(&tight), recovery.as_ref().map_or(0, |r| r.action as u64)]);
-    let Ok(recovery) = recovery else { return };
-    out.section(&recovery.marks.bytes());
-    out.section(&recovery.orders);
-    out.section(&recovery.positions);
-
-    let compare = |room| judge::compare_broker_state(&recovery.marks, &recovery.orders, &recovery.positions, &case.sheet, room);
-    let report = compare(AMPLE);
-    out.numbers(&[number(&report), number(&compare(report_room))]);
-    out.section(&report.unwrap_or_default());
-
-    let reconcile = |room| {
-        judge::reconcile_incomplete_intents(&recovery.marks, &recovery.orders, &case.sheet, &case.queries, case.entry_time, room)
+/// A generated case as the list has it.
+fn inputs(case: &Case) -> Inputs {
+    let (kind, sections) = match case {
+        Case::Log(LogCase { book, sheet, queries, window, time, entry_time, k, rooms }) => {
+            let mut numbers = vec![*time as u64, *entry_time as u64, *k];
+            numbers.extend(rooms.map(|r| r as u64));
+            (recorded::LOG, vec![book.clone(), sheet.clone(), queries.clone(), window.clone(), words(&numbers)])
+        }
+        Case::Drift(DriftCase { holdings, targets, prices, equity, room }) => {
+            (recorded::DRIFT, vec![holdings.clone(), targets.clone(), prices.clone(), words(&[*equity as u64, *room as u64])])
+        }
+        Case::Fixed(FixedCase { value, scale }) => (recorded::CONVERSION, vec![words(&[*value, *scale])]),
+        Case::Records(RecordsCase { first, second, sheet, queries, time, rooms }) => {
+            let side = |s: &Side| [s.book.clone(), s.marks.bytes(), s.orders.clone(), s.positions.clone()];
+            let numbers = words(&[*time as u64, rooms[0] as u64, rooms[1] as u64]);
+            (recorded::LENT_STATES, [&side(first)[..], &side(second), &[sheet.clone(), queries.clone(), numbers]].concat())
+        }
     };
-    let addendum = reconcile(AMPLE);
-    let (entries, unreached) = addendum.as_ref().map_or((0, 0), |a| (a.entries, a.unreached));
-    out.numbers(&[number(&addendum), number(&reconcile(addendum_room)), entries, unreached]);
-    let Ok(addendum) = addendum else { return };
-    out.section(&addendum.book);
-
-    let joined = judge::join(&case.book, &addendum.book, case.k, AMPLE);
-    let tight = judge::join(&case.book, &addendum.book, case.k, join_room);
-    out.numbers(&[number(&joined), number(&tight), joined.as_ref().map_or(0, |j| j.len() as u64)]);
-    let Ok(joined) = joined else { return };
-    let again = judge::reconstruct_state(&joined, case.time, AMPLE, AMPLE).expect("a joined book recovers");
-    let equal = judge::states_equal(
-        Lent { book: &case.book, marks: &recovery.marks, orders: &recovery.orders, positions: &recovery.positions },
-        Lent { book: &joined, marks: &again.marks, orders: &again.orders, positions: &again.positions },
-    );
-    out.numbers(&[number(&equal), equal.unwrap_or(false) as u64]);
-    out.section(&again.marks.bytes());
-    out.section(&again.orders);
-}
-
-fn drift_body(out: &mut Body, case: &DriftCase) {
-    for input in [&case.holdings, &case.targets, &case.prices] {
-        out.section(input);
-    }
-    out.numbers(&[case.equity as u64, case.room as u64]);
-    let drift = judge::drift(&case.holdings, &case.targets, &case.prices, case.equity, case.room);
-    out.numbers(&[number(&drift), drift.as_ref().map_or(0, |d| d.tracking)]);
-    out.section(&drift.map(|d| d.entries).unwrap_or_default());
-    let held = judge::held_value(&case.holdings, &case.prices);
-    out.numbers(&[number(&held), held.unwrap_or(0) as u64]);
-}
-
-fn fixed_body(out: &mut Body, case: &FixedCase) {
-    out.numbers(&[case.value, case.scale]);
-    let fixed = judge::f64_to_fixed_checked(case.value, case.scale);
-    let cents = judge::f64_cents_checked(case.value);
-    let limit = original::limit(case.value) as u64;
-    out.numbers(&[number(&fixed), fixed.unwrap_or(0) as u64, number(&cents), cents.unwrap_or(0) as u64, limit]);
-}
-
-fn records_body(out: &mut Body, case: &RecordsCase) {
-    for side in [&case.first, &case.second] {
-        out.section(&side.book);
-        out.section(&side.marks.bytes());
-        out.section(&side.orders);
-        out.section(&side.positions);
-    }
-    out.section(&case.sheet);
-    out.section(&case.queries);
-    let [report_room, addendum_room] = case.rooms;
-    out.numbers(&[case.time as u64, report_room as u64, addendum_room as u64]);
-    let Side { marks, orders, positions, .. } = &case.first;
-    let action = judge::determine_recovery_action(marks, orders);
-    out.numbers(&[number(&action), action.unwrap_or(0) as u64]);
-    let report = judge::compare_broker_state(marks, orders, positions, &case.sheet, report_room);
-    out.numbers(&[number(&report)]);
-    out.section(&report.unwrap_or_default());
-    let addendum = judge::reconcile_incomplete_intents(marks, orders, &case.sheet, &case.queries, case.time, addendum_room);
-    let (entries, unreached) = addendum.as_ref().map_or((0, 0), |a| (a.entries, a.unreached));
-    out.numbers(&[number(&addendum), entries, unreached]);
-    out.section(&addendum.map(|a| a.book).unwrap_or_default());
-    let equal = judge::states_equal(lent(&case.first), lent(&case.second));
-    out.numbers(&[number(&equal), equal.unwrap_or(false) as u64]);
-}
-
-fn kind(case: &Case) -> u32 {
-    match case {
-        Case::Log(_) => 1,
-        Case::Drift(_) => 2,
-        Case::Fixed(_) => 3,
-        Case::Records(_) => 4,
-    }
+    Inputs { kind, sections }
 }
 
 /// Whether the original can be given the case: a book that is read has UTF-8 texts.
@@ -183,123 +124,58 @@ fn in_domain(case: &Case) -> bool {
     }
 }
 
-/// The cases of the list, in order: the reference sequence, drawn cases, added cases.
-fn cases() -> Vec<Case> {
-    let mut out = reference::cases();
+/// The cases of the list with their names, in order: the reference sequence, drawn cases, added cases, cases for single rules.
+fn cases() -> Vec<(String, Inputs)> {
+    let mut out: Vec<(String, Inputs)> =
+        reference::cases().iter().enumerate().map(|(i, case)| (format!("reference {i}"), inputs(case))).collect();
     let drawn = |kind, seed, number| generator::case(kind, seed, number).expect("a kind");
     for (kind, seed, count, bytes) in DRAWN {
         let fits = |case: &Case| match case {
             Case::Log(log) => log.book.len() <= bytes,
-            _ => body(case).len() <= 1_200,
+            _ => recorded::body(&inputs(case), &Original).len() <= 1_200,
         };
-        out.extend((0..).map(|number| drawn(kind, seed, number)).filter(|c| fits(c) && in_domain(c)).take(count as usize));
+        let named = (0..).map(|number| (format!("{kind} {seed} {number}"), drawn(kind, seed, number)));
+        let taken = named.filter(|(_, c)| fits(c) && in_domain(c)).take(count as usize);
+        out.extend(taken.map(|(name, case)| (name, inputs(&case))));
     }
-    out.extend(ADDED.map(|(kind, seed, number)| drawn(kind, seed, number)));
+    out.extend(ADDED.map(|(kind, seed, number)| (format!("{kind} {seed} {number}"), inputs(&drawn(kind, seed, number)))));
+    out.extend(rule_cases::cases());
     out
 }
 
-/// Writes the list.
-pub fn write(file: &str) -> Result<bool, String> {
-    let cases = cases();
-    let mut out = Vec::new();
-    out.extend(1u32.to_le_bytes());
-    out.extend((cases.len() as u32).to_le_bytes());
-    for case in &cases {
-        let body = body(case);
-        out.extend(kind(case).to_le_bytes());
-        out.extend((body.len() as u32).to_le_bytes());
-        out.extend(body);
-    }
+/// Writes the list, and beside it the cases' names, a line each.
+pub fn write(file: &str, names: &str) -> Result<bool, String> {
+    let (named, cases): (Vec<String>, Vec<Inputs>) = cases().into_iter().unzip();
+    let out = recorded::file(&cases, &Original);
     println!("{} cases, {} bytes", cases.len(), out.len());
-    let many = |of: u32| cases.iter().filter(|c| kind(c) == of).count();
-    println!("{} logs, {} drift inputs, {} conversions, {} lent states", many(1), many(2), many(3), many(4));
+    let many = |of: u32| cases.iter().filter(|c| c.kind == of).count();
+    println!("{} logs, {} drift inputs, {} conversions, {} lent states, {} joins", many(1), many(2), many(3), many(4), many(5));
     std::fs::write(file, out).map_err(|e| format!("{file}: {e}"))?;
+    let lines: String = named.iter().enumerate().map(|(i, name)| format!("{i} {name}\n")).collect();
+    std::fs::write(names, lines).map_err(|e| format!("{names}: {e}"))?;
     Ok(true)
 }
 
-/// The file's cases: kind, body.
-fn stored(bytes: &[u8]) -> Option<Vec<(u32, &[u8])>> {
-    let word = |at: usize| bytes.get(at..at + 4).map(|b| u32::from_le_bytes(b.try_into().expect("four bytes")));
-    if word(0)? != 1 {
-        return None;
-    }
-    let mut at = 8;
-    let mut out = Vec::new();
-    for _ in 0..word(4)? {
-        let length = word(at + 4)? as usize;
-        out.push((word(at)?, bytes.get(at + 8..at + 8 + length)?));
-        at += 8 + length;
-    }
-    (at == bytes.len()).then_some(out)
-}
-
-/// The first sections of a body.
-fn sections(mut body: &[u8], count: usize) -> Option<Vec<Vec<u8>>> {
-    let mut out = Vec::new();
-    for _ in 0..count {
-        let length = u64::from_le_bytes(body.get(..8)?.try_into().ok()?) as usize;
-        out.push(body.get(8..8 + length)?.to_vec());
-        body = body.get(8 + length.next_multiple_of(8)..)?;
-    }
-    Some(out)
-}
-
-fn numbers(section: &[u8]) -> Vec<u64> {
-    section.chunks(8).map(|c| u64::from_le_bytes(c.try_into().expect("eight bytes"))).collect()
-}
-
-/// The case that a stored body's inputs say.
-fn case_of(kind: u32, body: &[u8]) -> Option<Case> {
-    Some(match kind {
-        1 => {
-            let [book, sheet, queries, window, rest] = sections(body, 5)?.try_into().ok()?;
-            let n = numbers(&rest);
-            let rooms = [n[3], n[4], n[5], n[6], n[7]].map(|r| r as usize);
-            Case::Log(LogCase { book, sheet, queries, window, time: n[0] as i64, entry_time: n[1] as i64, k: n[2], rooms })
-        }
-        2 => {
-            let [holdings, targets, prices, rest] = sections(body, 4)?.try_into().ok()?;
-            let n = numbers(&rest);
-            Case::Drift(DriftCase { holdings, targets, prices, equity: n[0] as i64, room: n[1] as usize })
-        }
-        3 => {
-            let n = numbers(&sections(body, 1)?[0]);
-            Case::Fixed(FixedCase { value: n[0], scale: n[1] })
-        }
-        4 => {
-            let mut parts = sections(body, 11)?.into_iter();
-            let mut next = || parts.next();
-            let mut side = || Some(Side { book: next()?, marks: Marks::parse(&next()?)?, orders: next()?, positions: next()? });
-            let (first, second) = (side()?, side()?);
-            let (sheet, queries, n) = (parts.next()?, parts.next()?, numbers(&parts.next()?));
-            let rooms = [n[1] as usize, n[2] as usize];
-            Case::Records(RecordsCase { first, second, sheet, queries, time: n[0] as i64, rooms })
-        }
-        _ => return None,
-    })
+fn list(file: &str) -> Result<Vec<Stored>, String> {
+    let bytes = std::fs::read(file).map_err(|e| format!("{file}: {e}"))?;
+    stored(&bytes).ok_or(format!("{file}: no recorded list"))
 }
 
 /// The first case of the file whose answers are not today's, counted from 0.
 pub fn first_difference(file: &str) -> Result<Option<usize>, String> {
-    let bytes = std::fs::read(file).map_err(|e| format!("{file}: {e}"))?;
-    let stored = stored(&bytes).ok_or(format!("{file}: no recorded list"))?;
-    for (i, (kind, expected)) in stored.iter().enumerate() {
-        let case = case_of(*kind, expected).ok_or(format!("{file}: case {i}"))?;
-        let today = catch_unwind(AssertUnwindSafe(|| body(&case)));
-        if today.ok().as_deref() != Some(expected) {
-            return Ok(Some(i));
-        }
-    }
-    Ok(None)
+    Ok(differences(&list(file)?, &Original).next())
 }
 
-/// Answers the file's cases again; true if every answer is the stored one.
+/// Answers the file's cases again, by the original and by document 01's reading alone; true if every answer is the stored one.
 pub fn replay(file: &str) -> Result<bool, String> {
-    let bytes = std::fs::read(file).map_err(|e| format!("{file}: {e}"))?;
-    let count = stored(&bytes).ok_or(format!("{file}: no recorded list"))?.len();
-    match first_difference(file)? {
-        None => println!("{count} cases, every answer the recorded one"),
-        Some(case) => println!("case {case} differs"),
+    let list = list(file)?;
+    let mut same = true;
+    for (who, judge) in [("the original", &Original as &dyn Judge), ("document 01's reading", &recorded::Reading)] {
+        match differences(&list, judge).next() {
+            None => println!("{} cases, every answer of {who} the recorded one", list.len()),
+            Some(case) => println!("{who}: case {case} differs"),
+        }
+        same &= differences(&list, judge).next().is_none();
     }
-    Ok(first_difference(file)?.is_none())
+    Ok(same)
 }

@@ -15,9 +15,6 @@ use Rattle.marks.specs.declared.Marks.{Marks}
 use Rattle.marks_record.specs.MarksRecord.{marksBytes, marksOk, marksLayout}
 use Rattle.marks_record.proofs.Puts.{behind, marks-size}
 use Rattle.recovery.specs.declared.recover.Recovered.{Recovered}
-use Rattle.effects.specs.Step.{marksStep}
-use Rattle.reader.specs.Reader.{eventAt, stepped, alteredIf, marksAfter}
-use Rattle.reader.specs.declared.Stepped.{Stepped}
 use Rattle.answers.proofs.Words.{all-written, three-words}
 use Rattle.recovery_answers.specs.RecoveryAnswer.{actionCode, recoveredBytes, keptIfShort}
 
@@ -51,8 +48,3 @@ kept-short room s t h = rw (lt-ltb room 16 h)
 pub altered : (room : ℕ) (s t : List ℕ) → 16 ≤ room → t ≡ keptIfShort room s t
 unfolding keptIfShort
 altered room s t h = rw (le-ltb room 16 h)
-
-pub after-step : (x : Stepped) (book : List ℕ) (next : ℕ) (m : Marks) → x ≡ stepped book next
-    → alteredIf x (marksStep (eventAt book next) m) m ≡ marksAfter book next m
-unfolding marksAfter
-after-step x book next m e = ap (λ (y : Stepped). alteredIf y (marksStep (eventAt book next) m) m) e

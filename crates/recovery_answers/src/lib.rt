@@ -3,11 +3,10 @@ ghost use mathlib.Core.Path.{_≡_};
 ghost use lib.ListN.{length, replicate};
 ghost use lib.Seq.{sets};
 ghost use Rattle.recovery.specs.Recover.{recoveryNumber};
-ghost use Rattle.reader.specs.Reader.{stepped, marksAfter};
-ghost use Rattle.marks_record.specs.MarksRecord.{marksOf};
 ghost use Rattle.answers.specs.Answer.{numbers, roomNumber, unlessShort};
 ghost use Rattle.recovery_answers.specs.RecoveryAnswer.{actionCode, recoveredBytes, recoveryBytes, actionNumbers, stepNumbers, lentActionNumbers, lentStepNumbers, keptIfShort, recordIf, recordAfter};
 use answers::Numbers;
+use marks::Marks;
 use marks::action::Action;
 use marks::action::RecoveryAction;
 use reader::Stepped;
@@ -117,19 +116,16 @@ fn step_numbers(s: Stepped) -> Numbers
     }
 }
 
-// The record of altered marks, where an event was stepped and the answer has this room.
-fn put_stepped(book: &[u8], next: u32, s: Stepped, room: usize, marks: &mut [u8])
-    requires { ⌜ (s ≡ stepped (now book) next) × (length (now marks) ≡ 176) ⌝ }
-    ensures { λ _. ⌜ now (marks .exit) ≡ keptIfShort room (now (marks .entry)) (recordIf s (now (marks .entry)) (marksAfter (now (book .entry)) next (marksOf (now (marks .entry))))) ⌝ }
+// The record of the marks after a step with this answer, where an event was stepped and the answer has this room.
+fn put_stepped(s: Stepped, m: Marks, room: usize, marks: &mut [u8])
+    requires { ⌜ length (now marks) ≡ 176 ⌝ }
+    ensures { λ _. ⌜ now (marks .exit) ≡ keptIfShort room (now (marks .entry)) (recordIf s (now (marks .entry)) m) ⌝ }
 {
     if room < 16 {
         return;
     }
     match s {
-        Stepped::Is => {
-            let m = reader::step_marks(s, book, next, marks_record::marks_of(marks));
-            marks_record::put_marks(marks, m);
-        }
+        Stepped::Is => marks_record::put_marks(marks, m),
         Stepped::Past => {}
         Stepped::Oversize => {}
         Stepped::Broken => {}
@@ -143,7 +139,9 @@ pub fn lent_step(book: &[u8], next: u32, room: usize, marks: &mut [u8]) -> Numbe
     if !marks_answers::marks_ok(marks) {
         return marks_answers::broken_marks(book::layout::check(book));
     }
-    let s = reader::step_answer(book, next);
-    put_stepped(book, next, s, room, marks);
+    let on = reader::step_on(book, next, marks_record::marks_of(marks));
+    let s = on.answer;
+    let m = on.marks;
+    put_stepped(s, m, room, marks);
     step_numbers(s)
 }

@@ -2,8 +2,10 @@
 use borrow.Author.Needs.{needs}
 use Rattle.recovery_answers.proofs.lent_step.Statement.{statement}
 use Rattle.recovery_answers.proofs.lent_step.Tie as tie
-use mathlib.Core.Path.{sym, _∙_}
+use mathlib.Core.Path.{sym, ap, _∙_}
+use denote.Ref.{now}
 use borrow.Author.Tests.{not-true, not-false}
+use Rattle.reader.specs.Reader.{marksAfter}
 use Rattle.recovery_answers.proofs.Lent.{marks-length}
 
 marks-ok-requires : tie.Need-marks-ok-requires
@@ -25,14 +27,17 @@ returns c =
     let e = sym (ok .marks-ok .ensures) ∙ not-true (ok .marks-ok .result) (test .if1 .taken) in
     (c .broken-marks .ensures ∙ rw (c .before .check .ensures, e), rw e)
 
-step-answer-requires : tie.Need-step-answer-requires
-step-answer-requires c κs = search needs
+marks-of-requires : tie.Need-marks-of-requires
+marks-of-requires c κs = search needs
+
+step-on-requires : tie.Need-step-on-requires
+step-on-requires c κs = search needs
 
 put-stepped-requires : tie.Need-put-stepped-requires
 put-stepped-requires c κs =
-    let test = c .before .before in
+    let test = c .before .before .before .before .before in
     let ok = test .before in
-    (c .before .step-answer .ensures, marks-length _ (sym (ok .marks-ok .ensures) ∙ not-false (ok .marks-ok .result) (test .if1 .left)))
+    marks-length _ (sym (ok .marks-ok .ensures) ∙ not-false (ok .marks-ok .result) (test .if1 .left))
 
 step-numbers-requires : tie.Need-step-numbers-requires
 step-numbers-requires c κs = search needs
@@ -43,12 +48,15 @@ same-length-2 c = search needs
 returns-2 : tie.Need-returns-2
 returns-2 c =
     let put = c .before .before .before in
-    let step = put .before .before in
-    let test = step .before in
+    let step = put .before .before .before in
+    let read = step .before in
+    let test = read .before .before in
     let ok = test .before in
+    let a = ok .before .before .before .before .args in
     let e = sym (ok .marks-ok .ensures) ∙ not-false (ok .marks-ok .result) (test .if1 .left) in
-    let s = step .step-answer .ensures in
-    (c .step-numbers .ensures ∙ rw (s, e), put .put-stepped .ensures ∙ rw (s, e))
+    let s = step .step-on .ensures in
+    let m = s .1 ∙ ap (marksAfter (now (a .book)) (a .next)) (read .marks-of .ensures) in
+    (c .step-numbers .ensures ∙ rw (s .0, e), put .put-stepped .ensures ∙ rw (s .0, m, e))
 
 pub lent-step-spec : {M : Type 1} → statement M
 lent-step-spec =
@@ -59,7 +67,8 @@ lent-step-spec =
     broken-marks-requires
     same-length
     returns
-    step-answer-requires
+    marks-of-requires
+    step-on-requires
     put-stepped-requires
     step-numbers-requires
     same-length-2

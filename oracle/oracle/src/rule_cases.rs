@@ -11,7 +11,7 @@ use crate::script::book;
 type Named = (String, Inputs);
 
 pub fn cases() -> Vec<Named> {
-    [validation(), windows(), recovery(), equality(), lent_states(), broken_marks(), reports(), joins(), drifts()].concat()
+    [validation(), windows(), recovery(), equality(), lent_states(), broken_marks(), reports(), joins(), drifts(), broken()].concat()
 }
 
 // ---- logs
@@ -419,4 +419,23 @@ fn joins() -> Vec<Named> {
 
 fn join(what: &str, a: Vec<u8>, b: Vec<u8>, k: u64, room: u64) -> Named {
     (what.into(), Inputs { kind: JOIN, sections: vec![a, b, words(&[k, room])] })
+}
+
+// ---- one broken input of each kind that no case above breaks alone
+
+fn broken() -> Vec<Named> {
+    let none = side(&[], &[]);
+    let sound = book("run_started 1").bytes();
+    let small = |what: &str, section: usize| {
+        let (what, mut inputs) = drift(what, &[], &[("A", 0.5)], &[("A", 1)], 1, 1 << 16);
+        inputs.sections[section][0] = b'a';
+        (what, inputs)
+    };
+    vec![
+        states("a broken book of a state", none.clone(), none.clone()).damaged(&[(1, 4, 25)]),
+        states("a broken book of the second state", none.clone(), none).damaged(&[(5, 4, 25)]),
+        join("a broken book, and a sound one", sound[..sound.len() - 1].to_vec(), sound.clone(), 0, 1 << 16),
+        small("a target of a small letter", 1),
+        small("a price of a small letter", 2),
+    ]
 }

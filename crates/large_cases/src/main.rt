@@ -1,0 +1,170 @@
+// Joins, replies and addenda at sizes that the recorded list cannot hold: the limits of a joined book and of an addendum, and the desk's 65,536 bytes of a file
+// and of a report. For each a line: what it is, and the refusal's number, or of a reply its length and its first bytes.
+//
+// It reads `cases.bin`, written by `make`, from the folder it is run in. A case has 520 bytes: nine u64, which are its kind, its label's length, the lengths of
+// two inputs, k, a place and a count of records, the place of a text, and how many first bytes there are; at 72 the label, at 136 the second input's first 24
+// bytes, at 160 a record, at 224 the text, at 256 the first input's first bytes. The first input has so many of the record from that place on, and zeros
+// elsewhere; the second has zeros after its first bytes.
+ghost use mathlib.Core.Path.{_≡_};
+ghost use lib.ListN.{length};
+use intents::Reconciling;
+use join::Joining;
+use libc::STDOUT_FILENO;
+use marks_answers::intents_answer;
+use reply::Replied;
+
+fn refusal(j: Joining) -> u64 {
+    match j {
+        Joining::Done(_) => 0,
+        Joining::Oversize => 1,
+        Joining::Broken => 2,
+        Joining::TooMany => 13,
+        Joining::NoRoom => 3,
+    }
+}
+
+fn addendum_refusal(r: Reconciling) -> u64 {
+    match r {
+        Reconciling::Done(_) => 0,
+        Reconciling::Oversize => 1,
+        Reconciling::Broken => 2,
+        Reconciling::NoNumbers => 8,
+        Reconciling::NoRoom => 3,
+    }
+}
+
+fn tell_label(case: &[u8]) {
+    io::write_all(
+        STDOUT_FILENO,
+        wire::part(case, 72, wire::u64_at(case, 8) as usize),
+    );
+    io::write_all(STDOUT_FILENO, b": ");
+}
+
+// A byte more than a book may have.
+fn zeros() -> [u8; 1048577]
+    ensures { λ r. ⌜ 1048577 ≡ length r ⌝ }
+{
+    [0; 1048577]
+}
+
+// The join of two books.
+fn tell_join(a: &[u8], b: &[u8], k: u64) {
+    let mut out = zeros();
+    io::print_decimal(STDOUT_FILENO, refusal(join::join(a, b, k, &mut out)));
+    io::write_all(STDOUT_FILENO, b"\n");
+}
+
+// The desk's reply to a book and a sheet: its length and its first bytes.
+fn tell_reply(book: &[u8], sheet: &[u8]) {
+    let mut out = io::buffer();
+    let Replied::Done(n) = reply::reply(book, sheet, &mut out) else {
+        return;
+    };
+    io::print_decimal(STDOUT_FILENO, n as u64);
+    io::write_all(STDOUT_FILENO, b" ");
+    io::write_all(STDOUT_FILENO, wire::part(&out, 0, 9));
+    io::write_all(STDOUT_FILENO, b"\n");
+}
+
+// Reconciling of orders with a sheet, every query answered.
+fn reconciled(orders: &[u8], sheet: &[u8], marks: &[u8]) -> Reconciling {
+    let queries = zeros();
+    let mut addendum = zeros();
+    intents_answer::lent_reconciling(marks, orders, sheet, &queries, 0, &mut addendum)
+}
+
+// The same with marks that begin.
+fn tell_reconciled(orders: &[u8], sheet: &[u8]) {
+    let mut marks = [0u8; 176];
+    marks[0] = 1;
+    io::print_decimal(
+        STDOUT_FILENO,
+        addendum_refusal(reconciled(orders, sheet, &marks)),
+    );
+    io::write_all(STDOUT_FILENO, b"\n");
+}
+
+fn tell_none() {
+    io::write_all(STDOUT_FILENO, b"a case of no kind\n");
+}
+
+fn tell(kind: u64, a: &[u8], b: &[u8], k: u64) {
+    match kind {
+        1 => tell_join(a, b, k),
+        2 => tell_reply(a, b),
+        3 => tell_reconciled(a, b),
+        _ => tell_none(),
+    }
+}
+
+// Writes a record of 64 bytes into each of `n` places from `at` on.
+fn put_records(d: &mut [u8], at: u32, n: u32, record: &[u8]) {
+    let mut i = at as usize;
+    let mut left = n;
+    while 0 < left {
+        wire::copy(d, i, record);
+        i += 64;
+        left -= 1;
+    }
+}
+
+// Writes the first input: the text, the records, the first bytes.
+fn put_first(d: &mut [u8], case: &[u8]) {
+    wire::copy(
+        d,
+        wire::u32_at(case, 56) as usize,
+        wire::part(case, 224, 32),
+    );
+    put_records(
+        d,
+        wire::u32_at(case, 40),
+        wire::u32_at(case, 48),
+        wire::part(case, 160, 64),
+    );
+    wire::copy(d, 0, wire::part(case, 256, wire::u64_at(case, 64) as usize));
+}
+
+fn tell_case(case: &[u8]) {
+    let mut a = zeros();
+    let mut b = zeros();
+    put_first(&mut a, case);
+    wire::copy(&mut b, 0, wire::part(case, 136, 24));
+    tell_label(case);
+    tell(
+        wire::u64_of(case),
+        wire::part(&a, 0, wire::u64_at(case, 16) as usize),
+        wire::part(&b, 0, wire::u64_at(case, 24) as usize),
+        wire::u64_at(case, 32),
+    );
+}
+
+// Reads a case and tells of it; false where none is left.
+fn read_case(fd: i32) -> bool {
+    let mut case = [0u8; 520];
+    if io::read_full(fd, &mut case) != 520 {
+        return false;
+    }
+    tell_case(&case);
+    true
+}
+
+fn read_cases(fd: i32, most: u32) {
+    let mut left = most;
+    while 0 < left {
+        if !read_case(fd) {
+            return;
+        }
+        left -= 1;
+    }
+}
+
+fn main() {
+    let fd = os::open_read(b"cases.bin");
+    if fd < 0 {
+        os::fail(b"cases.bin");
+        return;
+    }
+    read_cases(fd, 1000);
+    libc::close(fd);
+}

@@ -269,18 +269,18 @@ int32_t desk_truncated_i32(int64_t n);
  * The figure for each call:
  * desk_check_book                          320
  * desk_check_sheet                         128
- * desk_reply                           199,424
+ * desk_reply                           199,808
  * desk_validate_checkpoints                384
  * desk_max_checkpoint_sequence             384
  * desk_check_window_already_complete       448
- * desk_reconstruct_state                 2,368
- * desk_step                              1,856
+ * desk_reconstruct_state                 2,752
+ * desk_step                              1,152
  * desk_recovery_action                     640
  * desk_states_equal                      1,536
  * desk_compare_broker_state                512
  * desk_reconcile_incomplete_intents      1,344
  * desk_join                                704
- * desk_round                             2,304
+ * desk_round                             2,688
  * desk_reconcile                        67,328
  * desk_held_value                       34,368
  * desk_f64_to_fixed_checked                 64
@@ -294,7 +294,7 @@ int32_t desk_truncated_i32(int64_t n);
  * desk_sign_extended                        64
  * desk_truncated_i32                        64
  */
-enum { DESK_STACK = 199424 };
+enum { DESK_STACK = 199808 };
 
 #ifdef __cplusplus
 }

@@ -1,18 +1,18 @@
--- Marks by example: where the last numbers of each pair stand, and that they are read back. About no function.
+-- Marks by example: where the last numbers of each pair stand, that they are read back, and that a record has 176 bytes. About no function.
 -- Assumes nothing.
 use mathlib.Core.Path.{_≡_, refl}
-use mathlib.Core.List.{[], _∷_}
+use mathlib.Core.List.{[], _∷_, _++_}
 use mathlib.Core.Bool.{true, false}
 use lib.Dec.{lit<}
 use lib.IntN.{pos, negsuc}
-use lib.ListN.{drop}
+use lib.ListN.{take, drop}
 use Rattle.wire.specs.Le.{le, bytesOf}
-use Rattle.wire.specs.Table.{records}
+use Rattle.wire.specs.Table.{every, records}
 use Rattle.book.specs.declared.event.SequenceNumber.the-variants as N
 use Rattle.checkpoint.specs.Checkpoint.{checkpoints}
 use Rattle.checkpoint.specs.declared.Checkpoint.the-variants.{QuotesIntent}
 use Rattle.marks.specs.declared.Marks.{Marks}
-use Rattle.marks_record.specs.MarksRecord.{marksBytes, marksOf}
+use Rattle.marks_record.specs.MarksRecord.{marksBytes, marksOf, numberOk, marksOk}
 use Rattle.marks_record.proofs.Back.{MarksFits, is, nothing, marks-back}
 
 -- quotes answered at 12 and asked for again at 13, the account asked for at 8 and answered at 9; a negative equity
@@ -56,3 +56,16 @@ sample-back = marks-back sample sample-fits
 sample-read : marksOf (marksBytes sample) ≡ sample
 unfolding sample marksBytes marksOf bytesOf le checkpoints
 sample-read = refl
+
+-- a byte less and a byte more are no record
+sample-passes : marksOk (marksBytes sample) ≡ true
+unfolding sample marksBytes marksOk numberOk every bytesOf le
+sample-passes = refl
+
+byte-less : marksOk (take 175 (marksBytes sample)) ≡ false
+unfolding sample marksBytes marksOk numberOk every bytesOf le
+byte-less = refl
+
+byte-more : marksOk (marksBytes sample ++ 0 ∷ []) ≡ false
+unfolding sample marksBytes marksOk numberOk every bytesOf le
+byte-more = refl

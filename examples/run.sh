@@ -18,7 +18,7 @@ library() {
         return
     fi
     mkdir -p "$top/target"
-    echo "rt staticlib exports: proves the library; about 13 minutes of processor time the first time, then seconds" >&2
+    echo "rt staticlib exports: proves the library; some 9 to 18 minutes of processor time the first time, then seconds" >&2
     (cd "$top" && rt staticlib exports 2>&1) | tee "$top/target/staticlib.log" | awk '/^rt: .* proved \(/ && !/unchanged/ { print; fflush() }' >&2 ||
         { tail -5 "$top/target/staticlib.log" >&2; exit 2; }
     echo "$top/target/staticlib"

@@ -27,7 +27,7 @@
  * output all zero, but for two: verdicts 4 to 7 carry their event or checkpoint in the answer, and marks lent to a refused step keep their bytes.
  * An answer that is too short is refused by 3 after every other refusal, and then every output is zero, lent marks excepted.
  *
- * Layouts of books, sheets, records and marks: docs/FORMATS.md and crates/replay/FORMAT.md.
+ * Layouts of books, sheets, records, marks and answers: docs/FORMATS.md.
  */
 #ifndef DESK_H
 #define DESK_H

@@ -23,7 +23,8 @@
  *  - The thread has the stack that the call takes: the table at the end. The largest figure is DESK_STACK.
  *
  * A function that returns `uint32_t` returns the number of its refusal, 0 where there is none (enum desk_refusal). It is the first that is due in
- * this order: 1 on any input, 2 on any input, 13, 8, 1 of a book that is made, 11, 12, 3; desk_round goes call by call. A refusal leaves every
+ * this order: 1 on any input, 2 on any input, 13, 8, 1 of a book that is made, 11, 12, 3; desk_round goes call by call. Verdicts, 4 to 7, come after 2, in
+ * the order of validation; of a conversion 9 comes before 10. A refusal leaves every
  * output all zero, but for two: verdicts 4 to 7 carry their event or checkpoint in the answer, and marks lent to a refused step keep their bytes.
  * An answer that is too short is refused by 3 after every other refusal, and then every output is zero, lent marks excepted.
  *
@@ -265,7 +266,7 @@ uint64_t desk_sign_extended(int32_t ibkr);
 int32_t desk_truncated_i32(int64_t n);
 
 /* ---- the stack in bytes, the return address and the arguments on the stack included; `include/stack` measures it and reads it off the machine code.
- * A dynamic loader that binds memset, memcpy or memmove at their first call takes its own stack there; link with -z now or statically against that.
+ * What memset, memcpy and memmove take below their return address is not counted. A dynamic loader that binds memset, memcpy or memmove at their first call takes its own stack there; link with -z now or statically against that.
  * The figure for each call:
  * desk_check_book                          320
  * desk_check_sheet                         128

@@ -167,10 +167,20 @@ static void overlaps(void) {
     says(said == DESK_DONE && memcmp(large, "refused 2\n", 11) == 0, "a reply whose `text` is the book is \"refused 2\"");
 }
 
+/* A book without events, whose text fills it up to so many bytes; in `large`. */
+static size_t put_text(size_t length) {
+    uint32_t head[] = {0, DESK_BOOK_HEADER, 0, DESK_BOOK_HEADER, (uint32_t)length - DESK_BOOK_HEADER, DESK_BOOK_HEADER};
+    memcpy(large, head, sizeof head);
+    return length;
+}
+
 static void replies(void) {
     memset(large, 0, sizeof large);
-    says(desk_reply(large, DESK_FILE_MOST + 1, sheet, sheet_len, text, sizeof text, answer, DESK_ANSWER) == DESK_DONE && number(answer) == 10 &&
-             memcmp(text, "refused 1\n", 11) == 0,
+    says(desk_reply(large, put_text(DESK_FILE_MOST), sheet, sheet_len, text, sizeof text, answer, DESK_ANSWER) == DESK_DONE &&
+             memcmp(text, "verdict 6 0 1\n", 14) == 0,
+         "a file of 65,536 bytes is answered");
+    says(desk_reply(large, put_text(DESK_FILE_MOST + 1), sheet, sheet_len, text, sizeof text, answer, DESK_ANSWER) == DESK_DONE &&
+             number(answer) == 10 && memcmp(text, "refused 1\n", 11) == 0,
          "a file over 65,536 bytes is replied to by refused 1");
     says(desk_reply(book, 0, sheet, sheet_len, text, 10, answer, DESK_ANSWER) == DESK_DONE && memcmp(text, "refused 2\n", 10) == 0,
          "a refused reply is a reply: 0 is returned");
@@ -298,7 +308,7 @@ static void names(void) {
     uint64_t half = UINT64_C(1) << 63;
     says(cell(DESK_CELL_NONE, 0) == 0 && cell(DESK_CELL_NONE, 1) == 2, "a none cell has no payload");
     says(cell(DESK_CELL_I64, half - 1) == 0 && cell(DESK_CELL_I64, half) == 0, "an i64 is any payload");
-    says(cell(DESK_CELL_U64, half - 1) == 2 && cell(DESK_CELL_U64, half) == 0, "a u64 is at least 2^63");
+    says(cell(DESK_CELL_U64, half - 1) == 2 && cell(DESK_CELL_U64, half) == 0 && cell(DESK_CELL_U64, UINT64_MAX) == 0, "a u64 is at least 2^63");
     says(cell(DESK_CELL_F64, half - 1) == 2 && cell(DESK_CELL_F64, half) == 0, "an f64 is finite");
     says(cell(DESK_CELL_TEXT, 0) == 0 && cell(DESK_CELL_TEXT, UINT64_C(1) << 32) == 2, "a text lies in the book's text");
     says(cell(DESK_CELL_TRUTH, 1) == 0 && cell(DESK_CELL_TRUTH, 2) == 2, "a truth is 0 or 1");
@@ -307,6 +317,7 @@ static void names(void) {
 
     says(recover(book, book_len, now) == DESK_DONE, "the reference unit is recovered");
     says(orders[9] == (DESK_FLAG_SUBMITTED | DESK_FLAG_FILLED | DESK_FLAG_HAS_ID), "NVDA was submitted and filled");
+    says(orders[DESK_ORDER + 9] == (DESK_FLAG_SUBMITTED | DESK_FLAG_HAS_ID), "MSFT was submitted");
     says(orders[2 * DESK_ORDER + 9] == (DESK_FLAG_FAILED | DESK_FLAG_HAS_ID | DESK_FLAG_HAS_REASON), "AAPL failed");
     says(number(answer) == DESK_ORDER_INTENT && number(answer + DESK_MARKS + 16) == DESK_RESUME, "the last checkpoint is an intent; resume");
 

@@ -1,10 +1,11 @@
 // Joins, replies and addenda at sizes that the recorded list cannot hold: the limits of a joined book and of an addendum, and the desk's 65,536 bytes of a file
 // and of a report. For each a line: what it is, and the refusal's number, or of a reply its length and its first bytes.
 //
-// It reads `cases.bin`, written by `make`, from the folder it is run in. A case has 520 bytes: nine u64, which are its kind, its label's length, the lengths of
-// two inputs, k, a place and a count of records, the place of a text, and how many first bytes there are; at 72 the label, at 136 the second input's first 24
-// bytes, at 160 a record, at 224 the text, at 256 the first input's first bytes. The first input has so many of the record from that place on, and zeros
-// elsewhere; the second has zeros after its first bytes.
+// It reads `cases.bin`, written by `make`, from the folder it is run in. A case has 568 bytes: twelve u64, which are its kind, its label's length, the lengths of
+// two inputs, k, a place and a count of records, the place of a text, how many first bytes there are, the room of the joined book or the addendum, the last
+// number of the marks and the count of queries, all answered; at 96 the label, at 160 the second input's first 48 bytes, at 208 a record, at 272 the text, at
+// 304 the first input's first bytes. The first input has so many of the record from that place on, and zeros elsewhere; the second has zeros after its
+// first bytes.
 ghost use mathlib.Core.Path.{_≡_};
 ghost use lib.ListN.{length};
 use intents::Reconciling;
@@ -36,7 +37,7 @@ fn addendum_refusal(r: Reconciling) -> u64 {
 fn tell_label(case: &[u8]) {
     io::write_all(
         STDOUT_FILENO,
-        wire::part(case, 72, wire::u64_at(case, 8) as usize),
+        wire::part(case, 96, wire::u64_at(case, 8) as usize),
     );
     io::write_all(STDOUT_FILENO, b": ");
 }
@@ -49,9 +50,14 @@ fn zeros() -> [u8; 1048577]
 }
 
 // The join of two books.
-fn tell_join(a: &[u8], b: &[u8], k: u64) {
+fn tell_join(case: &[u8], a: &[u8], b: &[u8]) {
     let mut out = zeros();
-    io::print_decimal(STDOUT_FILENO, refusal(join::join(a, b, k, &mut out)));
+    let room = io::count(wire::u32_at(case, 72) as isize, &out);
+    let k = wire::u64_at(case, 32);
+    io::print_decimal(
+        STDOUT_FILENO,
+        refusal(join::join(a, b, k, &mut out[..room])),
+    );
     io::write_all(STDOUT_FILENO, b"\n");
 }
 
@@ -68,19 +74,22 @@ fn tell_reply(book: &[u8], sheet: &[u8]) {
 }
 
 // Reconciling of orders with a sheet, every query answered.
-fn reconciled(orders: &[u8], sheet: &[u8], marks: &[u8]) -> Reconciling {
-    let queries = zeros();
+fn reconciled(case: &[u8], orders: &[u8], sheet: &[u8], marks: &[u8]) -> Reconciling {
+    let answered = zeros();
+    let queries = wire::part(&answered, 0, wire::u64_at(case, 88) as usize);
     let mut addendum = zeros();
-    intents_answer::lent_reconciling(marks, orders, sheet, &queries, 0, &mut addendum)
+    let room = io::count(wire::u32_at(case, 72) as isize, &addendum);
+    intents_answer::lent_reconciling(marks, orders, sheet, queries, 0, &mut addendum[..room])
 }
 
-// The same with marks that begin.
-fn tell_reconciled(orders: &[u8], sheet: &[u8]) {
+// The same with marks that begin, but for their number.
+fn tell_reconciled(case: &[u8], orders: &[u8], sheet: &[u8]) {
     let mut marks = [0u8; 176];
     marks[0] = 1;
+    wire::copy(&mut marks, 8, wire::part(case, 80, 8));
     io::print_decimal(
         STDOUT_FILENO,
-        addendum_refusal(reconciled(orders, sheet, &marks)),
+        addendum_refusal(reconciled(case, orders, sheet, &marks)),
     );
     io::write_all(STDOUT_FILENO, b"\n");
 }
@@ -89,11 +98,12 @@ fn tell_none() {
     io::write_all(STDOUT_FILENO, b"a case of no kind\n");
 }
 
-fn tell(kind: u64, a: &[u8], b: &[u8], k: u64) {
+fn tell(case: &[u8], a: &[u8], b: &[u8]) {
+    let kind = wire::u64_of(case);
     match kind {
-        1 => tell_join(a, b, k),
+        1 => tell_join(case, a, b),
         2 => tell_reply(a, b),
-        3 => tell_reconciled(a, b),
+        3 => tell_reconciled(case, a, b),
         _ => tell_none(),
     }
 }
@@ -114,35 +124,34 @@ fn put_first(d: &mut [u8], case: &[u8]) {
     wire::copy(
         d,
         wire::u32_at(case, 56) as usize,
-        wire::part(case, 224, 32),
+        wire::part(case, 272, 32),
     );
     put_records(
         d,
         wire::u32_at(case, 40),
         wire::u32_at(case, 48),
-        wire::part(case, 160, 64),
+        wire::part(case, 208, 64),
     );
-    wire::copy(d, 0, wire::part(case, 256, wire::u64_at(case, 64) as usize));
+    wire::copy(d, 0, wire::part(case, 304, wire::u64_at(case, 64) as usize));
 }
 
 fn tell_case(case: &[u8]) {
     let mut a = zeros();
     let mut b = zeros();
     put_first(&mut a, case);
-    wire::copy(&mut b, 0, wire::part(case, 136, 24));
+    wire::copy(&mut b, 0, wire::part(case, 160, 48));
     tell_label(case);
     tell(
-        wire::u64_of(case),
+        case,
         wire::part(&a, 0, wire::u64_at(case, 16) as usize),
         wire::part(&b, 0, wire::u64_at(case, 24) as usize),
-        wire::u64_at(case, 32),
     );
 }
 
 // Reads a case and tells of it; false where none is left.
 fn read_case(fd: i32) -> bool {
-    let mut case = [0u8; 520];
-    if io::read_full(fd, &mut case) != 520 {
+    let mut case = [0u8; 568];
+    if io::read_full(fd, &mut case) != 568 {
         return false;
     }
     tell_case(&case);

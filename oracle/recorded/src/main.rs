@@ -36,7 +36,7 @@ fn all(crates: &Path) -> Option<()> {
 fn print_large(crates: &Path) -> Option<()> {
     let cases = std::fs::read(crates.join("large_cases/data/cases.bin")).ok()?;
     for case in cases.chunks(LARGE) {
-        println!("{}: {}", std::str::from_utf8(&case[72..72 + number(case, 8)]).ok()?, large(case));
+        println!("{}: {}", std::str::from_utf8(&case[96..96 + number(case, 8)]).ok()?, large(case));
     }
     Some(())
 }
@@ -82,28 +82,31 @@ fn sheet(case: &[u8]) -> String {
 }
 
 /// Bytes of a case of `large_cases`, and of its buffers.
-const LARGE: usize = 520;
+const LARGE: usize = 568;
 const BUFFER: usize = 1_048_577;
 
 /// crates/large_cases/src/main.rt: a join, a reply or an addendum of two inputs.
 fn large(case: &[u8]) -> String {
     let mut first = vec![0; BUFFER];
-    first[number(case, 56)..number(case, 56) + 32].copy_from_slice(&case[224..256]);
+    first[number(case, 56)..number(case, 56) + 32].copy_from_slice(&case[272..304]);
     for i in 0..number(case, 48) {
         let at = number(case, 40) + 64 * i;
-        first[at..at + 64].copy_from_slice(&case[160..224]);
+        first[at..at + 64].copy_from_slice(&case[208..272]);
     }
     let front = number(case, 64);
-    first[..front].copy_from_slice(&case[256..256 + front]);
+    first[..front].copy_from_slice(&case[304..304 + front]);
     let mut second = vec![0; BUFFER];
-    second[..24].copy_from_slice(&case[136..160]);
+    second[..48].copy_from_slice(&case[160..208]);
     let (a, b) = (&first[..number(case, 16)], &second[..number(case, 24)]);
     match number(case, 0) {
-        1 => refusal(Reading.join(a, b, number(case, 32) as u64, BUFFER)),
+        1 => refusal(Reading.join(a, b, number(case, 32) as u64, number(case, 72))),
         2 => {
             let reply = Reading.reply(a, b);
             format!("{} {}", reply.len(), &reply[..9])
         }
-        _ => refusal(Reading.reconcile(&Marks::begin(0).bytes(), a, b, &vec![0; BUFFER], 0, BUFFER)),
+        _ => {
+            let marks = Marks { number: number(case, 80) as u64, ..Marks::begin(0) };
+            refusal(Reading.reconcile(&marks.bytes(), a, b, &vec![0; number(case, 88)], 0, number(case, 72)))
+        }
     }
 }

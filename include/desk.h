@@ -266,7 +266,8 @@ uint64_t desk_sign_extended(int32_t ibkr);
 int32_t desk_truncated_i32(int64_t n);
 
 /* ---- the stack in bytes, the return address and the arguments on the stack included; `include/stack` measures it and reads it off the machine code.
- * What memset, memcpy and memmove take below their return address is not counted. A dynamic loader that binds memset, memcpy or memmove at their first call takes its own stack there; link with -z now or statically against that.
+ * What memset, memcpy and memmove take below their return address is not counted. A dynamic loader that binds them at their first call takes its own
+ * stack there; link with -z now or statically against that.
  * The figure for each call:
  * desk_check_book                          320
  * desk_check_sheet                         128

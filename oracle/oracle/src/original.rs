@@ -7,6 +7,7 @@ use std::path::{Path, PathBuf};
 use std::sync::{Once, OnceLock};
 
 use chrono::{TimeZone, Utc};
+use doc01::book::{Cell, ORDERS, POSITIONS};
 use doc01::entries::{addendum, Entry};
 use doc01::records::{FAILED, FILLED, HAS_ID, HAS_REASON, SUBMITTED};
 use doc01::{Book, Discrepancy, Marks, Order, Position, Sheet, State, TextRef, CHECKPOINTS};
@@ -391,21 +392,20 @@ pub fn peak(book: &Book) -> Ran<(usize, usize)> {
 }
 
 /// The same with the book's JSON lines and the counts after the last. Only the three events that replace a list can make one shorter, so the prefixes before those and the whole
-/// decide; of those, the ones before which an event may have filled that list.
+/// decide; of those, the ones that may hold more records than were found: a list holds no more than its rows, and orders one more for each order_intent after it.
 pub(crate) fn peak_on(book: &Book, text: &str, whole: (usize, usize)) -> Ran<(usize, usize)> {
     let mut most = whole;
-    let (mut orders, mut positions) = (false, false);
+    let (mut orders, mut positions) = (0, 0);
     for (i, event) in book.events.iter().enumerate() {
-        let filled = match book.text_of(event.name) {
-            b"diff_computed" => std::mem::replace(&mut orders, true),
-            b"positions_fetched" | b"positions_result" => std::mem::replace(&mut positions, true),
-            b"order_intent" => {
-                orders = true;
-                false
-            }
-            _ => false,
-        };
-        if filled {
+        let listed = |cell: usize| if let Cell::List { count, .. } = event.cells[cell] { Some(count as usize) } else { None };
+        let mut more = false;
+        match book.text_of(event.name) {
+            b"diff_computed" => more = listed(ORDERS).is_some_and(|rows| std::mem::replace(&mut orders, rows) > most.0),
+            b"positions_fetched" | b"positions_result" => more = listed(POSITIONS).is_some_and(|rows| std::mem::replace(&mut positions, rows) > most.1),
+            b"order_intent" => orders += 1,
+            _ => {}
+        }
+        if more {
             let (orders, positions) = counts_on(json::first(text, i))?;
             most = (most.0.max(orders), most.1.max(positions));
         }

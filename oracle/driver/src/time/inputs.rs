@@ -4,7 +4,7 @@ use std::path::PathBuf;
 
 use nanobook::Symbol;
 use nanobook_broker::{Account, Broker, BrokerError, BrokerOrder, BrokerOrderStatus, OrderId, OrderState, Position, Quote};
-use oracle::doc01::book::{Book, Cell, Event, Row, TextRef, ACTION, CLIENT, HEADER, IBKR, LIMIT, MAX_BYTES, ORDERS, POSITIONS, ROW, SHARES, SYMBOL};
+use oracle::doc01::book::{Book, Cell, Event, Row, TextRef, ACTION, CLIENT, HEADER, IBKR, LIMIT, MAX_BYTES, MAX_COUNT, ORDERS, POSITIONS, ROW, SHARES, SYMBOL};
 use oracle::doc01::sheet::{SheetOrder, SheetPosition};
 use oracle::doc01::{self, drift, records, Sheet};
 use oracle::generator::{case, Case, DriftCase, LogCase};
@@ -182,10 +182,8 @@ fn letters(number: usize) -> String {
 fn begun(orders: usize, positions: usize) -> Book {
     let mut book = Book::default();
     let action = text(&mut book, "BUY");
-    for i in (0..orders).chain(0..positions) {
-        let symbol = text(&mut book, &letters(i));
-        book.rows.push(Row { cells: [Cell::Text(symbol), Cell::Text(action), Cell::Int(100), Cell::Float(101.25)] });
-    }
+    rows(&mut book, action, orders);
+    rows(&mut book, action, positions);
     for (i, name) in ["run_started", "positions_intent", "positions_result", "diff_computed", "risk_check_passed"].iter().enumerate() {
         let mut cells = [Cell::None; 13];
         if i == 2 && positions > 0 {
@@ -198,6 +196,14 @@ fn begun(orders: usize, positions: usize) -> Book {
         push(&mut book, name, cells);
     }
     book
+}
+
+/// So many rows more, one symbol to each.
+fn rows(book: &mut Book, action: TextRef, many: usize) {
+    for i in 0..many {
+        let symbol = text(book, &letters(i));
+        book.rows.push(Row { cells: [Cell::Text(symbol), Cell::Text(action), Cell::Int(100), Cell::Float(101.25)] });
+    }
 }
 
 fn push(book: &mut Book, name: TextRef, cells: [Cell; 13]) {
@@ -245,6 +251,24 @@ fn settled(book: &mut Book, name: TextRef, order: usize) {
     cells[SYMBOL] = Cell::Text(symbol);
     cells[IBKR] = Cell::Int(order as i64 + 1);
     push(book, name, cells);
+}
+
+/// A legal log of 4,096 events: a run's first six, then events of one name, each with a list of three rows that takes the place of the list before. A book has no
+/// bytes for three rows to each of so many events, so the lists go round a table of 510.
+pub fn replaced(name: &str, cell: usize, folder: &Folder) -> Result<Vec<Log>, String> {
+    const LISTED: usize = 3;
+    let mut book = begun(0, 0);
+    let [intended, action, listed] = ["order_intent", "SELL", name].map(|t| text(&mut book, t));
+    intent(&mut book, intended, action, 0);
+    rows(&mut book, action, 510);
+    while book.events.len() < MAX_COUNT as usize {
+        let mut cells = [Cell::None; 13];
+        cells[cell] = Cell::List { first: (LISTED * book.events.len() % book.rows.len()) as u32, count: LISTED as u32 };
+        push(&mut book, listed, cells);
+    }
+    let log = Log::new(folder, 0, book, &Sheet::default())?;
+    audit::validate_checkpoints_from_parsed(&log.events).map_err(|e| format!("{e:?}"))?;
+    Ok(vec![log])
 }
 
 /// For a comparison: so many orders, nearly all submitted, a quarter as many positions, and a sheet of a quarter as many rows in each list, of which

@@ -6,6 +6,7 @@ use std::hint::black_box;
 use std::rc::Rc;
 use std::sync::atomic::{AtomicBool, AtomicUsize, Ordering};
 
+use oracle::doc01::book::{ORDERS, POSITIONS};
 use oracle::doc01::records::{DISCREPANCY, ORDER, POSITION};
 use oracle::original;
 use rebalancer::recovery::Discrepancy;
@@ -15,11 +16,14 @@ use super::inputs::{self, Folder, Lists, Log, FLOATS};
 use driver::entries::{self, Bytes, Entry};
 use driver::library::{Arguments, Lent};
 
-/// Each row and its inputs. A number is a count of events, for a comparison of orders, for drift of rows; behind `random` it is a count of logs.
+/// Each row and its inputs. A number is a count of events, for a comparison of orders, for drift of rows; after `random` it is a count of logs.
+/// `every-book` and `16-MiB` are rooms.
 pub const ROWS: &[(&str, &[&str])] = &[
     ("validate", &["reference", "random", "random-30", "random-3000", "largest", "64", "256", "1024", "4096"]),
     ("recover", &["reference", "random", "largest", "64", "256", "1024", "4096"]),
     ("recover-16", &["64", "256", "1024", "4096"]),
+    ("recover-positions", &["every-book", "16-MiB"]),
+    ("recover-diffs", &["every-book", "16-MiB"]),
     ("compare", &["reference", "random", "64", "256", "1024", "4096"]),
     ("drift-shared", &["16", "64", "256", "1024"]),
     ("drift-distinct", &["16", "64", "256", "1024"]),
@@ -30,11 +34,16 @@ pub const ROWS: &[(&str, &[&str])] = &[
     ("sqrt", &["1024"]),
 ];
 
+/// The rooms for orders and positions that suffice for every book, as include/desk.h has them.
+const ORDERS_ROOM: usize = 8_192 * ORDER;
+const POSITIONS_ROOM: usize = 4_096 * POSITION;
+
 /// The sides of a row. `parsed`: the original on parsed values; `whole`: with reading and parsing its file; `parse`: reading and parsing alone.
 pub fn sides(row: &str) -> &'static [&'static str] {
     match row {
         "validate" => &["library", "parsed", "whole"],
-        "recover" | "recover-16" | "reply" => &["library", "whole", "parse"],
+        "reply" => &["library", "whole", "parse"],
+        _ if row.starts_with("recover") => &["library", "whole", "parse"],
         _ => &["library", "parsed"],
     }
 }
@@ -168,18 +177,18 @@ impl Given {
 
 pub fn row(name: &str, input: &str, folder: &Folder) -> Result<Row, String> {
     let number = || input.parse::<usize>().map_err(|_| format!("no input: {input}"));
+    let most = |l: &Log| [ORDER * l.most().0, POSITION * l.most().1];
+    let large = |room| if input == "16-MiB" { 16 << 20 } else { room };
     match name {
         "validate" => {
             let logs = inputs::logs(input, folder, false)?;
             let asked = logs.iter().map(|l| Asked::new(&entries::VERDICT, vec![l.bytes.clone()], vec![], &[])).collect();
             Ok(asking(events(&logs), asked, |number, _| (number == 0) as u64, [Some(validated), Some(validated_whole), None], Given::Logs(logs)))
         }
-        "recover" | "recover-16" => {
-            let logs = if name == "recover" { inputs::logs(input, folder, false)? } else { inputs::sixteen(number()?, folder)? };
-            let ask = |l: &Log| Asked::new(&entries::RECOVER, vec![l.bytes.clone()], vec![0], &[ORDER * l.most().0, POSITION * l.most().1]);
-            let asked = logs.iter().map(ask).collect();
-            Ok(asking(events(&logs), asked, |_, a| a.word(22) << 32 | a.word(23), [None, Some(recovered), Some(parsed)], Given::Logs(logs)))
-        }
+        "recover" => Ok(recovery_of(inputs::logs(input, folder, false)?, most)),
+        "recover-16" => Ok(recovery_of(inputs::sixteen(number()?, folder)?, most)),
+        "recover-positions" => Ok(recovery_of(inputs::replaced("positions_fetched", POSITIONS, folder)?, |_| [ORDERS_ROOM, large(POSITIONS_ROOM)])),
+        "recover-diffs" => Ok(recovery_of(inputs::replaced("diff_computed", ORDERS, folder)?, |_| [large(ORDERS_ROOM), POSITIONS_ROOM])),
         "compare" => {
             let logs = if let Ok(orders) = number() { inputs::submitted(orders, folder)? } else { inputs::logs(input, folder, false)? };
             let (mut asked, mut states, mut size) = (Vec::new(), Vec::new(), 0);
@@ -214,6 +223,13 @@ pub fn row(name: &str, input: &str, folder: &Folder) -> Result<Row, String> {
         "sqrt" => Ok(leaf(library_sqrt, |f| f.abs().sqrt().to_bits())),
         _ => Err(format!("no row: {name}")),
     }
+}
+
+/// A row of recoveries, each with rooms for its orders and positions.
+fn recovery_of(logs: Vec<Log>, rooms: impl Fn(&Log) -> [usize; 2]) -> Row {
+    let ask = |l: &Log| Asked::new(&entries::RECOVER, vec![l.bytes.clone()], vec![0], &rooms(l));
+    let asked = logs.iter().map(ask).collect();
+    asking(events(&logs), asked, |_, a| a.word(22) << 32 | a.word(23), [None, Some(recovered), Some(parsed)], Given::Logs(logs))
 }
 
 fn events(logs: &[Log]) -> usize {

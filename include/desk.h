@@ -1,32 +1,32 @@
 /* The recovery desk as a C library: link libexports.a (`rt staticlib exports`). x86-64 Linux.
  *
- * No call keeps a pointer, allocates, prints or fails to return, whatever the bytes. The library has no state: calls may run side by side on threads.
+ * Whatever the bytes, no call keeps a pointer, allocates, prints or fails to return. The library has no state, so calls may run on several threads at once.
  *
- * Slices. Each is a pointer and a length in bytes. A null pointer has the length 0, an empty slice: an answer that is null is too short and is
- * refused. DESK_LENT(p, n) writes both arguments, with the length 0 where p is null. All numbers in bytes are little-endian. No slice needs to be aligned.
+ * Slices. Each is a pointer and a length in bytes. A null pointer with length 0 is an empty slice; a null answer is therefore too short, and is refused.
+ * DESK_LENT(p, n) writes both arguments, with length 0 if p is null. All numbers in bytes are little-endian. No slice needs to be aligned.
  *
  * Lent records fill their slice: orders have exactly count x DESK_ORDER bytes, positions count x DESK_POSITION, targets and prices
- * count x DESK_DRIFT_ROW, and marks exactly DESK_MARKS. A length that is no whole count is refused by 2. So a buffer that a call has filled is
- * lent to the next one with the length of what was counted, not with its whole room.
+ * count x DESK_DRIFT_ROW, and marks exactly DESK_MARKS. Any other length is refused by 2. So lend a buffer that a call has filled to the next call with
+ * the length of what was counted, not with its whole room.
  *
- * Outputs may hold anything before the call; every byte of them is decided by it, and those after what was written are zero.
+ * Outputs may hold anything before the call. The call decides every byte of them; bytes after what it writes are zero.
  *
- * The caller's duties. No code of the library can test these:
+ * The caller's duties, which the library cannot test:
  *  - A pointer is to as many bytes as its length says, and nobody else writes there during the call.
  *  - An output overlaps no input and no other output. Outputs are cleared first, so an input under one is lost: a round whose `joined` is the log itself
  *    zeroes the log and returns 2, and a reply whose `text` is the book is "refused 2". No promise covers an overlap.
  *    Two inputs may overlap. The marks of desk_step are altered in place and count as an output.
- *  - Floating point is as a C program starts: rounding to nearest, subnormal numbers neither flushed nor read as zero (-ffast-math at link time changes
- *    that), no exception unmasked. These calls do f64 arithmetic: desk_reconstruct_state, desk_step, desk_reply, desk_round, desk_reconcile,
- *    desk_f64_to_fixed_checked, desk_f64_cents_checked, desk_nearest_i64, desk_nearest_u64; in another mode their answers may differ. Comparisons
- *    of f64 are also in desk_f64_bits, desk_saturating_i64 and desk_sqrt. All other calls use whole numbers only.
- *  - The thread has the stack that the call takes: the table at the end. The largest figure is DESK_STACK.
+ *  - Floating point is in the mode in which a C program starts: rounding to nearest, subnormal numbers neither flushed nor read as zero (-ffast-math at
+ *    link time changes that), no exception unmasked. These calls do f64 arithmetic, and may answer otherwise in another mode: desk_reconstruct_state,
+ *    desk_step, desk_reply, desk_round, desk_reconcile, desk_f64_to_fixed_checked, desk_f64_cents_checked, desk_nearest_i64, desk_nearest_u64.
+ *    desk_f64_bits, desk_saturating_i64 and desk_sqrt compare f64 values. All other calls use whole numbers only.
+ *  - The thread has the stack that the call takes: see the table at the end. The largest figure is DESK_STACK.
  *
- * A function that returns `uint32_t` returns the number of its refusal, 0 where there is none (enum desk_refusal). It is the first that is due in
- * this order: 1 on any input, 2 on any input, 13, 8, 1 of a book that is made, 11, 12, 3; desk_round goes call by call. Verdicts, 4 to 7, come after 2, in
- * the order of validation; of a conversion 9 comes before 10. A refusal leaves every
- * output all zero, but for two: verdicts 4 to 7 carry their event or checkpoint in the answer, and marks lent to a refused step keep their bytes.
- * An answer that is too short is refused by 3 after every other refusal, and then every output is zero, lent marks excepted.
+ * A function that returns `uint32_t` returns the number of its refusal, or 0 (enum desk_refusal). If several are due, it is the first in this order:
+ * 1 on any input, 2 on any input, 13, 8, 1 of a book that is made, 11, 12, 3; desk_round goes call by call. Verdicts 4 to 7 come after 2, in the order of
+ * validation; in a conversion 9 comes before 10. A refusal leaves every output all zero, with two exceptions: verdicts 4 to 7 carry their event or checkpoint
+ * in the answer, and marks lent to a refused step keep their bytes. An answer that is too short is refused by 3, after every other refusal; then every
+ * output is zero, except lent marks.
  *
  * Layouts of books, sheets, records, marks and answers: docs/FORMATS.md.
  */
@@ -77,8 +77,8 @@ enum {
 };
 
 /* ---- rooms that suffice for every book and sheet, so that 3 is not returned for them; addenda and joined books have at most DESK_BOOK_MOST.
- * A list of orders replaces the orders before it and has at most 4,096, an order_intent adds one at most; a list of positions replaces those before it.
- * The report has at most one line for each order and position of both sides, and four more. */
+ * A list of orders has at most 4,096 and replaces the orders held before; an order_intent adds at most one; a list of positions replaces those held before.
+ * The report has at most one record for each order and position of both sides, and four for the marks. */
 enum {
     DESK_ORDERS_ROOM = 8192 * 64,
     DESK_POSITIONS_ROOM = 4096 * 32,
@@ -175,9 +175,9 @@ uint32_t desk_check_book(const uint8_t *book, size_t book_len);
 uint32_t desk_check_sheet(const uint8_t *sheet, size_t sheet_len);
 
 /* ---- the whole reply of the desk program as text; answer: u64 length of the text, u64 0.
- * A book or sheet that cannot be used is no refusal of this call: it returns 0, and the text is `refused N` and a newline. N is 1 (as for a file over
- * 65,536 bytes), 2, or 3 for a report of more than 1,365; the book is tested before the sheet. The call returns 3 where `text` has no room for the
- * reply; 65,536 bytes always have. */
+ * A book or sheet that cannot be used is no refusal of this call: it returns 0, and the text is `refused N` and a newline. N is 1 (also for a file over
+ * 65,536 bytes), 2, or 3 for a report of more than 1,365 records; the book is tested before the sheet. The call returns 3 if `text` has no room for the
+ * reply; 65,536 bytes are always enough. */
 uint32_t desk_reply(const uint8_t *book, size_t book_len, const uint8_t *sheet, size_t sheet_len, uint8_t *text, size_t text_len, uint8_t *answer,
                     size_t answer_len);
 
@@ -192,14 +192,14 @@ uint32_t desk_max_checkpoint_sequence(const uint8_t *book, size_t book_len, uint
 uint32_t desk_check_window_already_complete(const uint8_t *book, size_t book_len, const uint8_t *window, size_t window_len, uint8_t *answer,
                                             size_t answer_len);
 
-/* ---- recovery into order and position records; `time` in milliseconds is the caller's. 3 where the records do not fit after some event, though they may
+/* ---- recovery into order and position records; `time` in milliseconds is the caller's. 3 if the records do not fit after some event, even if they fit
  * at the end. answer, DESK_RECOVERED bytes: the marks, u64 orders, u64 positions, u64 action. */
 uint32_t desk_reconstruct_state(const uint8_t *book, size_t book_len, int64_t time, uint8_t *orders, size_t orders_len, uint8_t *positions,
                                 size_t positions_len, uint8_t *answer, size_t answer_len);
 
 /* ---- the marks after the event `next`, counted from 0; the lent marks are altered in place, and keep their bytes where the step is refused.
  * Before the first event the marks are: u64 1 (DESK_RUN_STARTED) at 0, the caller's i64 time at 16, and zeros. Stepped from there through every event
- * they are those of desk_reconstruct_state, where that is not refused. answer: u64 1 if an event was stepped, 0 at or past the last; u64 0. */
+ * they become those of desk_reconstruct_state, if that is not refused. answer: u64 1 if an event was stepped, 0 at or past the last; u64 0. */
 uint32_t desk_step(const uint8_t *book, size_t book_len, uint32_t next, uint8_t *marks, size_t marks_len, uint8_t *answer, size_t answer_len);
 
 /* ---- the action by marks and orders; answer: u64 action, u64 0 */
@@ -216,20 +216,19 @@ uint32_t desk_compare_broker_state(const uint8_t *marks, size_t marks_len, const
                                    size_t positions_len, const uint8_t *sheet, size_t sheet_len, uint8_t *report, size_t report_len,
                                    uint8_t *answer, size_t answer_len);
 
-/* ---- reconciling of open order intents by the sheet and the queries (a byte for each query: 0 answered, any other failed; an intent takes up to
- * five, until one is answered; a spent list means failed): the addendum book of the entries that settle them, at `time`. 8 where the numbers do not
- * suffice.
+/* ---- reconciling of open order intents with the sheet: writes the addendum book of the entries that settle them, at `time`. `queries` has a byte for each
+ * query, 0 answered, any other failed; an intent takes up to five, until one is answered; a spent list means failed. 8 if the numbers do not suffice.
  * answer, DESK_RECONCILED bytes: u64 entries, u64 intents not reached, u64 length of the addendum. */
 uint32_t desk_reconcile_incomplete_intents(const uint8_t *marks, size_t marks_len, const uint8_t *orders, size_t orders_len, const uint8_t *sheet,
                                            size_t sheet_len, const uint8_t *queries, size_t queries_len, int64_t time, uint8_t *addendum,
                                            size_t addendum_len, uint8_t *answer, size_t answer_len);
 
-/* ---- book A and the first k events of B, with both row tables and both texts; 13 where B has fewer. answer: u64 length of the joined book, u64 0 */
+/* ---- book A and the first k events of B, with both row tables and both texts; 13 if B has fewer. answer: u64 length of the joined book, u64 0 */
 uint32_t desk_join(const uint8_t *a, size_t a_len, const uint8_t *b, size_t b_len, uint64_t k, uint8_t *out, size_t out_len, uint8_t *answer,
                    size_t answer_len);
 
 /* ---- a round on a log: recovery at the time `at`, reconciling with entries of the time `time`, and the join of the first k entries.
- * answer: u64 length of the next log, which begins `joined`; u64 0. Refused, the log is as it was. The refusal is that of the first call that is
+ * answer: u64 length of the next log, at the start of `joined`; u64 0. The log itself is only read. The refusal is that of the first call that is
  * refused: 1, 2, 3 of recovery; then 1, 2, 8, 1 of the addendum, 3 of reconciling; then 13, 1 of the joined book, 3 of join. So 3 of `orders` comes
  * before 1 of the sheet. */
 uint32_t desk_round(const uint8_t *log, size_t log_len, const uint8_t *sheet, size_t sheet_len, const uint8_t *queries, size_t queries_len, int64_t at,
@@ -241,7 +240,7 @@ uint32_t desk_round(const uint8_t *log, size_t log_len, const uint8_t *sheet, si
 uint32_t desk_reconcile(const uint8_t *positions, size_t positions_len, const uint8_t *targets, size_t targets_len, const uint8_t *prices,
                         size_t prices_len, int64_t equity, uint8_t *entries, size_t entries_len, uint8_t *answer, size_t answer_len);
 
-/* ---- held value; 12 where a product or the total is no i64. answer: i64 value, u64 0 */
+/* ---- held value; 12 if a product or the total is no i64. answer: i64 value, u64 0 */
 uint32_t desk_held_value(const uint8_t *positions, size_t positions_len, const uint8_t *prices, size_t prices_len, uint8_t *answer,
                          size_t answer_len);
 
@@ -254,7 +253,7 @@ uint64_t desk_f64_bits(uint64_t n);
 bool desk_is_finite(uint64_t n);
 int64_t desk_saturating_i64(uint64_t n);
 
-/* ---- the bits of the f64 that is nearest to the integer n */
+/* ---- the bits of the f64 nearest to the integer n */
 uint64_t desk_nearest_i64(int64_t n);
 uint64_t desk_nearest_u64(uint64_t n);
 

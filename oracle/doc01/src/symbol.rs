@@ -1,4 +1,4 @@
-//! Symbol fields: eight bytes padded with zeros and a length byte, in the 16-byte form with seven zeros behind it.
+//! Symbol fields: eight bytes padded with zeros and a length byte, in the 16-byte form with seven zeros after it.
 
 use crate::{zeros, Refusal};
 

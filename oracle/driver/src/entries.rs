@@ -35,7 +35,7 @@ impl Due {
         }
     }
 
-    /// Of an entry that tests the rooms of its outputs behind all else, and needs as much as it writes.
+    /// Of an entry that tests the rooms of its outputs after all else, and needs as much as it writes.
     pub(crate) fn said(outputs: Vec<Vec<u8>>, answer: Vec<u8>) -> Due {
         Due { refusal: 0, needs: outputs.iter().map(Vec::len).collect(), outputs, answer }
     }
@@ -178,7 +178,7 @@ fn round(inputs: &[Bytes], said: &[u64]) -> Result<Due, u32> {
     Ok(rounded(recovered, settled, &inputs[0], said[2]))
 }
 
-/// The round behind recovery. Each call tests its rooms behind its other refusals, and before the next call's.
+/// The round after recovery. Each call tests its rooms after its other refusals, and before the next call's.
 pub(crate) fn rounded(recovered: Due, settled: Result<judge::Addendum, u32>, book: &[u8], k: u64) -> Due {
     let mut due = recovered;
     let joined = settled.and_then(|addendum| {

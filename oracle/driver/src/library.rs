@@ -129,7 +129,7 @@ entry!(desk_f64_cents_checked(; value: u64; answer));
 /// Bytes of the answers of the entries without slices, eight each.
 pub const PLAIN: usize = 64;
 
-/// The entries without slices, all asked with one number; their answers one behind the other, as if lent.
+/// The entries without slices, all asked with one number; their answers one after the other, as if lent.
 pub fn plain(of: &Arguments) -> u32 {
     extern "C" {
         fn desk_f64_bits(bits: u64) -> u64;

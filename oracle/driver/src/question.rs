@@ -12,7 +12,7 @@ const AMPLE: usize = 1 << 20;
 /// The most outputs of an entry, its answer among them.
 const MOST: usize = 5;
 
-/// The most room behind an exact one.
+/// The most room beyond an exact one.
 const BEHIND: usize = 4_096;
 
 #[derive(Clone)]
@@ -208,8 +208,8 @@ impl Question {
     fn agrees<'a>(&self, due: u32, said: impl Fn(usize) -> &'a [u8], number: u32, lent: &[Lent]) -> bool {
         let same = |(i, lent): (usize, &Lent)| {
             let (start, rest) = (said(i), self.unsaid(i));
-            let (front, behind) = lent.bytes().split_at(start.len());
-            let (kept, zero) = behind.split_at(rest.len().saturating_sub(start.len()));
+            let (front, after) = lent.bytes().split_at(start.len());
+            let (kept, zero) = after.split_at(rest.len().saturating_sub(start.len()));
             !lent.beside() && front == start && kept == &rest[rest.len() - kept.len()..] && zeros(zero)
         };
         number == due && lent.iter().enumerate().all(same)

@@ -36,7 +36,7 @@ fn record(name: &str) -> usize {
     }
 }
 
-/// Smaller inputs, one by one, from large to small; None behind the last.
+/// Smaller inputs, one by one, from large to small; None after the last.
 fn smaller(name: &str, bytes: &[u8], step: usize) -> Option<Option<Vec<u8>>> {
     let length = bytes.len();
     let mut step = step;
@@ -85,7 +85,7 @@ fn smaller(name: &str, bytes: &[u8], step: usize) -> Option<Option<Vec<u8>>> {
     None
 }
 
-/// Candidate `step` of input `input`; the inputs one behind the other.
+/// Candidate `step` of input `input`; the inputs one after the other.
 fn candidate(question: &Question, input: usize, step: usize) -> Option<Option<Question>> {
     let bytes = smaller(question.entry.inputs[input], &question.inputs[input], step)?;
     Some(bytes.map(|bytes| {

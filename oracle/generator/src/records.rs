@@ -23,7 +23,7 @@ fn marks(maker: &mut Maker) -> Marks {
     marks
 }
 
-/// A reference into the text, now and then behind its end.
+/// A reference into the text, now and then past its end.
 fn reference(rng: &mut Rng, text: usize) -> TextRef {
     let first = rng.below(text + 1);
     let length = rng.below((text - first).min(12) + 1);

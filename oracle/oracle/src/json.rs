@@ -95,11 +95,11 @@ impl Lines<'_> {
         self.out.push_str(",\"ts\":\"");
         let date = [(time.year() as u32, 4, '-'), (time.month(), 2, '-'), (time.day(), 2, 'T')];
         let clock = [(time.hour(), 2, ':'), (time.minute(), 2, ':'), (time.second(), 2, '.'), (time.timestamp_subsec_millis(), 3, 'Z')];
-        for (number, digits, behind) in date.into_iter().chain(clock) {
+        for (number, digits, after) in date.into_iter().chain(clock) {
             for place in (0..digits).rev() {
                 self.out.push((b'0' + (number / 10u32.pow(place) % 10) as u8) as char);
             }
-            self.out.push(behind);
+            self.out.push(after);
         }
         self.out.push('"');
     }

@@ -2,7 +2,7 @@
 //!
 //! Refusals 1, 2, 3, 8, 11, 12 and 13 and the layouts are document 01's (crate `doc01`); verdicts, marks, records, actions,
 //! reports, entries, drift and conversions are the original's. `room` is the length of a lent output in bytes; an output
-//! holds the bytes given here and zeros behind them, or zeros alone on a refusal.
+//! holds the bytes given here and zeros after them, or zeros alone on a refusal.
 
 use std::cell::RefCell;
 

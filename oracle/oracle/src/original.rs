@@ -106,7 +106,7 @@ fn written(text: &str) -> PathBuf {
     })
 }
 
-/// What was appended to the log file behind so many bytes.
+/// What was appended to the log file after so many bytes.
 fn appended_to(path: &Path, before: usize) -> String {
     let failed = |e: std::io::Error| -> ! { fault(&format!("{}: {e}", path.display())) };
     let length = std::fs::metadata(path).unwrap_or_else(|e| failed(e)).len();

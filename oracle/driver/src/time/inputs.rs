@@ -222,7 +222,7 @@ fn intent(book: &mut Book, name: TextRef, action: TextRef, i: usize) {
     push(book, name, cells);
 }
 
-/// As many orders as events: five in the diff's list, and each event behind the first five is an order_intent of another symbol.
+/// As many orders as events: five in the diff's list, and each event after the first five is an order_intent of another symbol.
 fn intents(events: usize) -> Book {
     let mut book = begun(5, 0);
     let [name, action] = ["order_intent", "SELL"].map(|t| text(&mut book, t));
@@ -336,7 +336,7 @@ pub fn lists(rows: usize, shared: bool) -> Result<Vec<Lists>, String> {
     (0..ARRANGED).map(|order| listed(rows, shared, order)).collect()
 }
 
-/// The symbols in an order that is none: behind one another by a number without a common factor, another in each.
+/// The symbols in no order: each follows the one before by a step that shares no factor with their number; `order` chooses the step.
 fn listed(rows: usize, shared: bool, order: usize) -> Result<Lists, String> {
     let name = |i: usize| doc01::Symbol::of(letters(i * (7_919 + 2 * 13 * 6 * order) % 17_576).as_bytes()).ok_or("no symbol");
     let mut bytes = vec![Vec::new(), Vec::new(), Vec::new()];

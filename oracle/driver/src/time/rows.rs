@@ -67,7 +67,7 @@ impl Row {
     }
 }
 
-/// A question to the library, with the bytes that it is lent: the outputs, and the answer behind them.
+/// A question to the library, with the bytes that it is lent: the outputs, and the answer after them.
 struct Asked {
     entry: &'static Entry,
     inputs: Vec<Bytes>,

@@ -30,7 +30,7 @@ pub fn time(only: Option<(&str, &str)>) -> Result<bool, String> {
         }
         for line in sets(&mut sides) {
             let ([first, second], [once, again]) = (line.medians, line.ratios);
-            println!("{name}\t{input}\t{size}\t{}\t{first:.4}\t{second:.4}\t{once:.3}\t{again:.3}\t{}\t{}", line.side, line.samples, line.passes);
+            println!("{name}\t{input}\t{size}\t{}\t{first:.4}\t{second:.4}\t{once:.5}\t{again:.5}\t{}\t{}", line.side, line.samples, line.passes);
         }
     }
     Ok(true)

@@ -31,7 +31,7 @@ use Rattle.records.proofs.Orders.{RefFits, nothing}
 use Rattle.effects.specs.Event.{Row, Event}
 use Rattle.effects.specs.Step.{symbolOr, symbolFrom, refOr, wholeOr, limitOf, limitOr, newOrder, orderOfRow, ordersFrom, withClient, asFailed, asSubmitted, asFilled, intended, intentBy, failedBy, submittedBy, filledBy, ordersAt, ordersBy, ordersStep}
 use Rattle.effects.proofs.CellFits.{ref-fits, limit-fits, new-fits}
-use Rattle.effects.proofs.Held.{each-append, client-fits, failed-fits, filled-fits}
+use Rattle.effects.proofs.Fits.{each-append, client-fits, failed-fits, filled-fits}
 use Rattle.sound_state.proofs.Tables.{each-change}
 use Rattle.sound_state.proofs.Spelling.{Spelt, spelt-fits, unknown-spelt, parsed-spelt}
 use Rattle.sound_state.proofs.Good.{RefIn, StrIn, Good, GoodStr, TextBytes, GoodRow, GoodRows, GoodEvent}

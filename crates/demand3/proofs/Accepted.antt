@@ -24,8 +24,7 @@ use Rattle.checkpoint.specs.declared.Checkpoint.the-variants.{RunStarted, Posit
 use Rattle.checkpoint.specs.declared.Named.{Named}
 use Rattle.checkpoint.specs.declared.Named.the-variants as K
 use Rattle.effects.specs.Event.{Row, Event, rowsOf, eventOf, eventsOf}
-use Rattle.audit.specs.Verdict.{emptyList, seenOf, seenIn, orElse, rises, faultAt, lastAfter, walk, foundBefore, found, placeBehind, place, emptyAfter, lastEmpty, rules, verdictOf, bookVerdict}
-use Rattle.audit.specs.declared.validate.Seen.{Seen}
+use Rattle.audit.specs.Verdict.{emptyList, Seen, seenOf, seenIn, orElse, rises, faultAt, lastAfter, walk, foundBefore, found, placeBehind, place, emptyAfter, lastEmpty, rules, verdictOf, bookVerdict}
 use Rattle.audit.specs.declared.validate.Verdict.{Verdict}
 use Rattle.audit.specs.declared.validate.Verdict.the-variants as Ver
 use Rattle.intents.specs.declared.Chosen.{Chosen}

@@ -108,60 +108,37 @@ pub fn put_marks(d: &mut [u8], m: Marks)
     put_pairs(d, m);
 }
 
-// The checkpoint of a number, RunStarted where it names none: of the numbers up to 6, up to 11, and above.
-fn low_checkpoint(n: u64) -> Checkpoint
-    requires { ⌜ n < 7 ⌝ }
-    ensures { λ r. ⌜ r ≡ checkpointOf n ⌝ }
-{
-    match n {
-        2 => Checkpoint::PositionsIntent,
-        3 => Checkpoint::PositionsFetched,
-        4 => Checkpoint::PositionsResult,
-        5 => Checkpoint::DiffComputed,
-        6 => Checkpoint::RiskCheckPassed,
-        _ => Checkpoint::RunStarted,
-    }
-}
-
-fn middle_checkpoint(n: u64) -> Checkpoint
-    requires { ⌜ (6 < n) × (n < 12) ⌝ }
-    ensures { λ r. ⌜ r ≡ checkpointOf n ⌝ }
-{
-    match n {
-        7 => Checkpoint::OrderIntent,
-        8 => Checkpoint::OrderSubmitted,
-        9 => Checkpoint::OrderFailed,
-        10 => Checkpoint::OrderFilled,
-        11 => Checkpoint::QuotesIntent,
-        _ => Checkpoint::RunStarted,
-    }
-}
-
-fn high_checkpoint(n: u64) -> Checkpoint
-    requires { ⌜ 11 < n ⌝ }
-    ensures { λ r. ⌜ r ≡ checkpointOf n ⌝ }
-{
-    match n {
-        12 => Checkpoint::QuotesResult,
-        13 => Checkpoint::AccountSummaryIntent,
-        14 => Checkpoint::AccountSummaryResult,
-        15 => Checkpoint::CancelIntent,
-        16 => Checkpoint::CancelResult,
-        17 => Checkpoint::RunCompleted,
-        _ => Checkpoint::RunStarted,
-    }
-}
-
+// The checkpoint of a number, RunStarted where it names none.
 fn checkpoint_of(n: u64) -> Checkpoint
     ensures { λ r. ⌜ r ≡ checkpointOf n ⌝ }
 {
-    if n < 7 {
-        return low_checkpoint(n);
+    let checkpoints = [
+        Checkpoint::RunStarted,
+        Checkpoint::PositionsIntent,
+        Checkpoint::PositionsFetched,
+        Checkpoint::PositionsResult,
+        Checkpoint::DiffComputed,
+        Checkpoint::RiskCheckPassed,
+        Checkpoint::OrderIntent,
+        Checkpoint::OrderSubmitted,
+        Checkpoint::OrderFailed,
+        Checkpoint::OrderFilled,
+        Checkpoint::QuotesIntent,
+        Checkpoint::QuotesResult,
+        Checkpoint::AccountSummaryIntent,
+        Checkpoint::AccountSummaryResult,
+        Checkpoint::CancelIntent,
+        Checkpoint::CancelResult,
+        Checkpoint::RunCompleted,
+    ];
+    if n < 1 {
+        return Checkpoint::RunStarted;
     }
-    if n < 12 {
-        return middle_checkpoint(n);
+    if 17 < n {
+        return Checkpoint::RunStarted;
     }
-    high_checkpoint(n)
+    let i = (n - 1) as usize;
+    checkpoints[i]
 }
 
 fn number_of(s: &[u8]) -> SequenceNumber
@@ -221,10 +198,7 @@ pub fn unanswered_at(s: &[u8], flags: usize) -> bool
     ensures { λ r. ⌜ r ≡ (truthOf (le 1 (drop flags (now (s .entry)))) && not (truthOf (le 1 (drop 1 (drop flags (now (s .entry))))))) ⌝ }
 {
     let f = wire::from(s, flags);
-    if !truth_at(f, 0) {
-        return false;
-    }
-    !truth_at(f, 1)
+    truth_at(f, 0) & !truth_at(f, 1)
 }
 
 fn truths_ok(s: &[u8]) -> bool
@@ -247,13 +221,7 @@ fn number_ok(s: &[u8]) -> bool
     ensures { λ r. ⌜ r ≡ numberOk (now (s .entry)) ⌝ }
 {
     let present = wire::whole_u64(s);
-    if present == 1 {
-        return true;
-    }
-    if present != 0 {
-        return false;
-    }
-    wire::whole_u64_at(s, 8) == 0
+    (present == 1) | ((present == 0) & (wire::whole_u64_at(s, 8) == 0))
 }
 
 fn numbers_ok(s: &[u8]) -> bool
@@ -280,20 +248,12 @@ pub fn check(s: &[u8]) -> Layout
         return Layout::Broken;
     }
     let checkpoint = wire::u64_of(s);
-    if checkpoint < 1 {
-        return Layout::Broken;
-    }
-    if 17 < checkpoint {
-        return Layout::Broken;
-    }
-    if !truths_ok(wire::from(s, 32)) {
-        return Layout::Broken;
-    }
-    if wire::u32_at(s, 42) != 0 {
-        return Layout::Broken;
-    }
-    if wire::u16_at(s, 46) != 0 {
-        return Layout::Broken;
-    }
-    wire::layout::sound_if(numbers_ok(wire::from(s, 48)))
+    wire::layout::sound_if(
+        (1 <= checkpoint)
+            & (checkpoint <= 17)
+            & truths_ok(wire::from(s, 32))
+            & (wire::u32_at(s, 42) == 0)
+            & (wire::u16_at(s, 46) == 0)
+            & numbers_ok(wire::from(s, 48)),
+    )
 }

@@ -61,7 +61,7 @@ fn same_head(m: Marks, n: Marks) -> bool
 {
     let k = m.checkpoint;
     let j = n.checkpoint;
-    if !marks::is_checkpoint(k, j) {
+    if !k.same(j) {
         return false;
     }
     if m.number != n.number {

@@ -1,6 +1,5 @@
--- `marks_record::unanswered_at`: the two flags in turn.
+-- `marks_record::unanswered_at`: what the calls ensure, put together.
 use borrow.Author.Needs.{needs}
-use borrow.Author.Tests.{not-true, not-false}
 use Rattle.marks_record.proofs.unanswered_at.Statement.{statement}
 use Rattle.marks_record.proofs.unanswered_at.Tie as tie
 
@@ -10,22 +9,12 @@ from-requires c κs = search needs
 truth-at-requires : tie.Need-truth-at-requires
 truth-at-requires c κs = search needs
 
-returns : tie.Need-returns
-returns c =
-    rw (← c .before .before .from .ensures, ← c .before .truth-at .ensures, not-true (c .before .truth-at .result) (c .if1 .taken))
-
 truth-at-requires-2 : tie.Need-truth-at-requires-2
 truth-at-requires-2 c κs = search needs
 
-returns-2 : tie.Need-returns-2
-returns-2 c =
-    rw (
-      ← c .before .before .before .from .ensures,
-      ← c .before .before .truth-at .ensures,
-      not-false (c .before .before .truth-at .result) (c .before .if1 .left),
-      ← c .truth-at2 .ensures,
-    )
+returns : tie.Need-returns
+returns c = cc
 
 pub unanswered-at-spec : {M : Type 1} → statement M
 unanswered-at-spec =
-    tie.close (tie.spec from-requires truth-at-requires returns truth-at-requires-2 returns-2)
+    tie.close (tie.spec from-requires truth-at-requires truth-at-requires-2 returns)

@@ -1,4 +1,4 @@
--- `reply::put_lines`: the report behind the recovery.
+-- `reply::text::put_told`: the report after the recovery.
 use Prim.Native.Nat.{ℕ}
 use mathlib.Core.Path.{sym, ap, _∙_}
 use native.Mathlib.Nat.{zero-add}
@@ -9,8 +9,8 @@ use Rattle.wire.specs.Le.{le}
 use Rattle.wire.specs.Table.{records}
 use Rattle.lines.proofs.Behind.{wrote-behind}
 use Rattle.reply.specs.Text.{recoveredLines, reportLines}
-use Rattle.reply.proofs.put_lines.Statement.{statement}
-use Rattle.reply.proofs.put_lines.Tie as tie
+use Rattle.reply.proofs.text.put_told.Statement.{statement}
+use Rattle.reply.proofs.text.put_told.Tie as tie
 
 put-recovered-requires : tie.Need-put-recovered-requires
 put-recovered-requires c κs = search needs
@@ -29,10 +29,10 @@ returns c =
     let a = c .before .before .before .before .before .before .before .before .before .before .args in
     let t = c .before .before .before .before .before .before .put-recovered in
     let k = c .before .before .put-report in
-    let u = reportLines (a .count) (records (le 4) 48 (a .count) (now (a .report))) in
+    let u = reportLines (records (le 4) 48 (a .count) (now (a .report))) in
     wrote-behind (now (a .d)) 0 (recoveredLines (a .v) (a .r)) (t .last .0) (t .result) u (k .last .0) (k .result) (t .ensures .0, t .ensures .1)
     (k .ensures .0, k .ensures .1 ∙ ap (λ (x : ℕ). sets (t .last .0) x u) (sym (zero-add (t .result))))
 
-pub put-lines-spec : {M : Type 1} → statement M
-put-lines-spec =
+pub put-told-spec : {M : Type 1} → statement M
+put-told-spec =
     tie.close (tie.spec put-recovered-requires put-report-requires add-result same-length returns)

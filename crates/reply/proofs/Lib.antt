@@ -4,4 +4,3 @@ pub mod Parts
 pub mod Room
 pub mod ReplyExamples
 pub mod Fits
-pub mod SameText

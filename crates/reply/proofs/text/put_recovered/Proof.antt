@@ -1,4 +1,4 @@
--- `reply::text::put_recovered`: five lines, one behind the other.
+-- `reply::text::put_recovered`: five lines, one after the other.
 use Prim.Native.Nat.{_+_}
 use mathlib.Core.Path.{_∙_}
 use mathlib.Core.List.{_++_}

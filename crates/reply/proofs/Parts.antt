@@ -53,13 +53,12 @@ front : {A : Type 0} (f : A → List ℕ) (w : ℕ) → ((x : A) → length (f x
 unfolding padded
 front f w size n xs = take-at (encoded f xs) (replicate (n - length (encoded f xs)) 0) (w * length xs) (length-encoded f w size xs)
 
--- ---- by a recovery's answer, and by the parts of that
+-- ---- by the parts of a recovery's answer
 module _ (room : ℕ) (v : Verdict) (sheet : List ℕ) where
-  abbrev pub answerResult : Recovery → State → DeskResult
-  answerResult x st = byRecovery room x v (bytesIf x room (encoded orderBytes (st .orders))) (bytesIf x room (encoded positionBytes (st .positions))) sheet
-
   abbrev pub partsResult : Layout → Bool → State → DeskResult
-  partsResult l b st = answerResult (refusedOr l (doneIf b st)) st
+  partsResult l b st =
+      let x = refusedOr l (doneIf b st) in
+      byRecovery room x v (bytesIf x room (encoded orderBytes (st .orders))) (bytesIf x room (encoded positionBytes (st .positions))) sheet
 
   -- the records that fit are those of the state
   pub fitting : (st : State)

@@ -68,7 +68,7 @@ fn files_layout(book: &[u8], sheet: &[u8]) -> Layout
     first_refusal(b, s)
 }
 
-// The result of a recovery, by its orders and positions.
+// The result of a verdict and a recovery, by the recovered orders and positions and the sheet.
 fn compared_result(
     v: Verdict,
     r: Recovered,
@@ -91,7 +91,7 @@ fn compared_result(
     }
 }
 
-// The result of a sound book and a sheet, by three buffers of one length, of which the orders' and the positions' are zero.
+// The result of a sound book and a sheet, by three buffers of one length; those of the orders and the positions are zero.
 fn book_result(
     book: &[u8],
     sheet: &[u8],
@@ -152,7 +152,8 @@ fn put_long(d: &mut [u8], book: &[u8], sheet: &[u8]) -> usize
     }
 }
 
-// The same by either. Short buffers seldom suffice for more than 16,384 bytes of files, which go by long ones at once.
+// The same by short buffers, or by long ones where those do not suffice: a short reply takes a short frame. Files of more than 16,384 bytes go by long ones
+// at once, so that little is worked out twice.
 fn put_book(d: &mut [u8], book: &[u8], sheet: &[u8]) -> usize
     requires { ⌜ bookLayout (now book) ≡ Layout.Sound ⌝ }
     ensures { λ x. ⌜ Writes x (resultText (bookResult 65536 (pos 0) (now (book .entry)) (now (sheet .entry)))) (now (d .entry)) (now (d .exit)) ⌝ }

@@ -1,4 +1,4 @@
-// The lines of the reply, each written from `at` on. Each function returns how many bytes it wrote.
+// The lines of the reply, each written from `at` on, or from the start. Each function returns how many bytes it wrote.
 ghost use mathlib.Core.Path.{_≡_};
 ghost use Prim.Native.Nat.{_<_};
 ghost use lib.ListN.{length};
@@ -13,14 +13,13 @@ use checkpoint::Checkpoint;
 use marks::action::RecoveryAction;
 use recovery::recover::Recovered;
 
-fn put_verdict(d: &mut [u8], at: usize, v: Verdict) -> usize
-    requires { ⌜ at < 65000 ⌝ }
-    ensures { λ r. ⌜ (r ≡ length (verdictLine v)) × (now (d .exit) ≡ sets (now (d .entry)) at (verdictLine v)) × (r < 100) ⌝ }
+fn put_verdict(d: &mut [u8], v: Verdict) -> usize
+    ensures { λ r. ⌜ Writes r (verdictLine v) (now (d .entry)) (now (d .exit)) ⌝ ∗ ⌜ r < 100 ⌝ }
 {
     let x = audit::validate::verdict_numbers(v);
-    let n = lines::put_field(d, at, b"verdict ", x.0 as u64);
-    let m = n + lines::put_field(d, at + n, b" ", x.1 as u64);
-    m + lines::put_line(d, at + m, b" ", x.2 as u64)
+    let n = lines::put_field(d, 0, b"verdict ", x.0 as u64);
+    let m = n + lines::put_field(d, n, b" ", x.1 as u64);
+    m + lines::put_line(d, m, b" ", x.2 as u64)
 }
 
 fn put_action(d: &mut [u8], at: usize, a: RecoveryAction) -> usize
@@ -43,18 +42,17 @@ fn put_last(d: &mut [u8], at: usize, k: Checkpoint, number: u64) -> usize
 }
 
 // The lines of a verdict and a recovery.
-fn put_recovered(d: &mut [u8], at: usize, v: Verdict, r: Recovered) -> usize
-    requires { ⌜ at < 60000 ⌝ }
-    ensures { λ x. ⌜ (x ≡ length (recoveredLines v r)) × (now (d .exit) ≡ sets (now (d .entry)) at (recoveredLines v r)) × (x < 500) ⌝ }
+fn put_recovered(d: &mut [u8], v: Verdict, r: Recovered) -> usize
+    ensures { λ x. ⌜ Writes x (recoveredLines v r) (now (d .entry)) (now (d .exit)) ⌝ ∗ ⌜ x < 500 ⌝ }
 {
     let marks = r.marks;
     let k = marks.checkpoint;
     let action = r.action;
-    let a = put_verdict(d, at, v);
-    let b = a + put_action(d, at + a, action);
-    let c = b + put_last(d, at + b, k, marks.number);
-    let e = c + lines::put_line(d, at + c, b"orders ", r.orders as u64);
-    e + lines::put_line(d, at + e, b"positions ", r.positions as u64)
+    let a = put_verdict(d, v);
+    let b = a + put_action(d, a, action);
+    let c = b + put_last(d, b, k, marks.number);
+    let e = c + lines::put_line(d, c, b"orders ", r.orders as u64);
+    e + lines::put_line(d, e, b"positions ", r.positions as u64)
 }
 
 // The kinds of a report's first `count` records, a line each.
@@ -85,7 +83,7 @@ pub fn put_told(d: &mut [u8], v: Verdict, r: Recovered, report: &[u8], count: us
     requires { ⌜ count < 1366 ⌝ }
     ensures { λ x. ⌜ Writes x (resultText (Told v r (records (le 4) 48 count (now (report .entry))))) (now (d .entry)) (now (d .exit)) ⌝ }
 {
-    let n = put_recovered(d, 0, v, r);
+    let n = put_recovered(d, v, r);
     n + put_report(d, n, report, count)
 }
 

@@ -1,14 +1,10 @@
 -- `reply::text::put_told`: the report after the recovery.
-use Prim.Native.Nat.{ℕ}
-use mathlib.Core.Path.{sym, ap, _∙_}
-use native.Mathlib.Nat.{zero-add}
-use borrow.Author.Needs.{needs}
 use denote.Ref.{now}
-use lib.Seq.{sets}
 use Rattle.wire.specs.Le.{le}
 use Rattle.wire.specs.Table.{records}
-use Rattle.lines.proofs.Behind.{wrote-behind}
 use Rattle.reply.specs.Text.{recoveredLines, reportLines}
+use Rattle.reply.proofs.Room.{wrote-next}
+use borrow.Author.Needs.{needs}
 use Rattle.reply.proofs.text.put_told.Statement.{statement}
 use Rattle.reply.proofs.text.put_told.Tie as tie
 
@@ -29,10 +25,15 @@ returns c =
     let a = c .before .before .before .before .before .before .before .before .before .before .args in
     let t = c .before .before .before .before .before .before .put-recovered in
     let k = c .before .before .put-report in
-    let u = reportLines (records (le 4) 48 (a .count) (now (a .report))) in
-    wrote-behind (now (a .d)) 0 (recoveredLines (a .v) (a .r)) (t .last .0) (t .result) u (k .last .0) (k .result) (t .ensures .0, t .ensures .1)
-    (k .ensures .0, k .ensures .1 ∙ ap (λ (x : ℕ). sets (t .last .0) x u) (sym (zero-add (t .result))))
+    wrote-next (now (a .d)) (recoveredLines (a .v) (a .r)) (t .last .0) (t .result) (reportLines (records (le 4) 48 (a .count) (now (a .report)))) (k .last .0) (k .result)
+    (t .ensures .0) (k .ensures .0, k .ensures .1)
 
 pub put-told-spec : {M : Type 1} → statement M
 put-told-spec =
-    tie.close (tie.spec put-recovered-requires put-report-requires add-result same-length returns)
+    tie.close
+    (tie.spec
+    put-recovered-requires
+    put-report-requires
+    add-result
+    same-length
+    returns)

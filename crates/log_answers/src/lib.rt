@@ -13,42 +13,11 @@ use sequence::Window;
 pub fn verdict_numbers(v: Verdict) -> Numbers
     ensures { λ n. ⌜ n ≡ numbers (verdictNumbers v) ⌝ }
 {
-    match v {
-        Verdict::Accepted => Numbers {
-            refusal: 0,
-            a: 0,
-            b: 0,
-        },
-        Verdict::Oversize => Numbers {
-            refusal: 1,
-            a: 0,
-            b: 0,
-        },
-        Verdict::Broken => Numbers {
-            refusal: 2,
-            a: 0,
-            b: 0,
-        },
-        Verdict::Unnumbered(i) => Numbers {
-            refusal: 4,
-            a: i as u64,
-            b: 0,
-        },
-        Verdict::NotRising(i) => Numbers {
-            refusal: 5,
-            a: i as u64,
-            b: 0,
-        },
-        Verdict::Missing(k) => Numbers {
-            refusal: 6,
-            a: 0,
-            b: k.number() as u64,
-        },
-        Verdict::OutOfOrder(k) => Numbers {
-            refusal: 7,
-            a: 0,
-            b: k.number() as u64,
-        },
+    let n = audit::validate::verdict_numbers(v);
+    Numbers {
+        refusal: n.0,
+        a: n.1 as u64,
+        b: n.2 as u64,
     }
 }
 

@@ -1,38 +1,33 @@
 -- The reply always fits the 65,536 bytes that the desk lends. About no function.
 -- Assumes nothing.
 use Prim.Native.Nat.{ℕ, _+_, _*_, _≤_, _<_}
-use mathlib.Core.Path.{_≡_, refl}
-use mathlib.Core.List.{List, [], _∷_, _++_, map}
+use mathlib.Core.Path.{_≡_}
+use mathlib.Core.List.{List, [], _∷_, _++_}
 use native.Mathlib.Nat.{mul-suc}
 use native.Mathlib.Omega.{arith}
 use borrow.Author.Tests.{le-leb}
 use lib.Dec.{lit<}
 use lib.IntN.{pos}
-use lib.ListN.{length, length-append, length-map}
+use lib.ListN.{length, length-append}
 use Rattle.wire.specs.Table.{encoded}
 use Rattle.wire.specs.declared.layout.Layout.{Layout}
 use Rattle.wire.specs.declared.layout.Layout.the-variants as L
 use Rattle.checkpoint.specs.Checkpoint.{ascii}
 use Rattle.checkpoint.specs.declared.Checkpoint.{Checkpoint}
-use Rattle.audit.specs.Verdict.{bookVerdict, verdictNumbers}
+use Rattle.audit.specs.Verdict.{verdictNumbers}
 use Rattle.audit.specs.declared.validate.Verdict.{Verdict}
-use Rattle.recovery.specs.Recover.{recovery, ordersOut, positionsOut}
 use Rattle.marks.specs.declared.action.RecoveryAction.{RecoveryAction}
 use Rattle.marks.specs.declared.action.RecoveryAction.the-variants.{Restart, Resume, ManualReview}
 use Rattle.recovery.specs.declared.recover.Recovered.{Recovered}
-use Rattle.recovery.specs.declared.recover.Recovery.{Recovery}
-use Rattle.recovery.specs.declared.recover.Recovery.the-variants as R
-use Rattle.compare.specs.Report.{discrepancyKind}
-use Rattle.compare.specs.Compare.{lentReport, comparison}
-use Rattle.compare.specs.declared.Comparison.{Comparison}
-use Rattle.compare.specs.declared.Comparison.the-variants as C
 use Rattle.lines.specs.Lines.{field, line, checkpointName}
 use Rattle.lines.proofs.Digits.{digits-within}
 use Rattle.lines.proofs.Names.{name-within}
-use Rattle.reply.specs.Text.{verdictLine, actionLine, lastLine, recoveredLines, kindLine, reportLines, refusedLine}
-use Rattle.reply.specs.Reply.{comparedText, lentText, recoveredText, bookText, unlessRefused, filesLayout, replyText, replied}
+use Rattle.reply.specs.Result.{DeskResult, Refused, Told, filesLayout, unlessRefused, bookResult, deskResult}
+use Rattle.reply.specs.Text.{verdictLine, actionLine, lastLine, recoveredLines, kindLine, reportLines, refusedLine, resultText}
+use Rattle.reply.specs.Reply.{replyText, replied}
 use Rattle.reply.specs.declared.Replied.the-variants.{Done}
-use Rattle.reply.proofs.Compared.{done-count, done-fits}
+use Rattle.reply.proofs.Compared.{kindsOf}
+use Rattle.reply.proofs.Parts.{result-few}
 
 -- ---- each line
 field-within : (w : List ℕ) (n : ℕ) → length (field w n) ≤ length w + 20
@@ -82,54 +77,30 @@ unfolding encoded
 kinds-within [] = omega arith
 kinds-within (k ∷ ks) = rw (length-append (kindLine k), mul-suc) (omega (arith, line-within [] k, kinds-within ks))
 
-report-within : (n : ℕ) (ks : List ℕ) → length (reportLines n ks) ≤ 28 + 21 * length ks
+report-within : (ks : List ℕ) → length (reportLines ks) ≤ 28 + 21 * length ks
 unfolding reportLines
-report-within n ks = rw (length-append (line (ascii "report ") n)) (omega (arith, line-within (ascii "report ") n, kinds-within ks))
+report-within ks =
+    rw (length-append (line (ascii "report ") (length ks))) (omega (arith, line-within (ascii "report ") (length ks), kinds-within ks))
 
 refused-within : (n : ℕ) → length (refusedLine n) < 30000
 unfolding refusedLine
 refused-within n = omega (arith, line-within (ascii "refused ") n)
 
 -- ---- the whole
-module _ (v : Verdict) (r : Recovered) (orders positions sheet : List ℕ) where
-  compared-within : (x : Comparison) → comparison (r .marks) orders positions sheet 65536 ≡ x
-      → length (comparedText v r (lentReport (r .marks) orders positions sheet) x) < 30000
-  compared-within (C.Done c) e =
-      let xs = lentReport (r .marks) orders positions sheet in
-      let n : length (map discrepancyKind xs) ≡ length xs = length-map xs discrepancyKind in
-      rw (length-append (recoveredLines v r))
-      (omega (
-        arith,
-        recovered-within v r,
-        report-within (c .count) (map discrepancyKind xs),
-        n,
-        done-count (r .marks) orders positions sheet 65536 c e,
-        done-fits (r .marks) orders positions sheet 65536 c e,
-      ))
-  compared-within C.Oversize e = refused-within 1
-  compared-within C.Broken e = refused-within 2
-  compared-within C.NoRoom e = refused-within 3
+result-within : (x : DeskResult) → 48 * length (kindsOf x) ≤ 65536 → length (resultText x) < 30000
+result-within (Refused n) h = refused-within n
+result-within (Told v r ks) h = rw (length-append (recoveredLines v r)) (omega (arith, recovered-within v r, report-within ks))
 
-  lent-within : length (lentText v r orders positions sheet) < 30000
-  unfolding lentText
-  lent-within = compared-within (comparison (r .marks) orders positions sheet 65536) refl
-
-recovery-within : (x : Recovery) (v : Verdict) (orders positions sheet : List ℕ) → length (recoveredText x v orders positions sheet) < 30000
-recovery-within (R.Done r) v orders positions sheet = lent-within v r _ _ sheet
-recovery-within R.Oversize v orders positions sheet = refused-within 1
-recovery-within R.Broken v orders positions sheet = refused-within 2
-recovery-within R.NoRoom v orders positions sheet = refused-within 3
-
-unless-within : (l : Layout) (t : List ℕ) → length t < 30000 → length (unlessRefused l t) < 30000
-unless-within L.Sound t h = h
-unless-within L.Oversize t h = refused-within 1
-unless-within L.Broken t h = refused-within 2
+unless-few : (l : Layout) (x : DeskResult) → 48 * length (kindsOf x) ≤ 65536 → 48 * length (kindsOf (unlessRefused l x)) ≤ 65536
+unless-few L.Sound x h = h
+unless-few L.Oversize x h = omega arith
+unless-few L.Broken x h = omega arith
 
 pub reply-within : (book sheet : List ℕ) → length (replyText book sheet) < 30000
-unfolding replyText bookText
+unfolding replyText
 reply-within book sheet =
-    unless-within (filesLayout book sheet) (bookText book sheet)
-    (recovery-within (recovery book (pos 0) 65536 65536) (bookVerdict book) (ordersOut book (pos 0) 65536 65536) (positionsOut book (pos 0) 65536 65536) sheet)
+    result-within (deskResult book sheet)
+    (unless-few (filesLayout book sheet) (bookResult 65536 (pos 0) book sheet) (result-few (pos 0) book sheet 65536))
 
 pub always-done : (book sheet : List ℕ) → replied (replyText book sheet) 65536 ≡ Done (length (replyText book sheet))
 always-done book sheet = rw (le-leb (length (replyText book sheet)) 65536 (omega (arith, reply-within book sheet)))

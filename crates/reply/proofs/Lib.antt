@@ -1,6 +1,6 @@
 pub mod KindLines
 pub mod Compared
-pub mod Suffices
+pub mod Parts
 pub mod Room
 pub mod ReplyExamples
 pub mod Fits

@@ -23,8 +23,9 @@ use Rattle.recovery.specs.Recover.{steps, roomy, recovery, ordersOut, positions
 use Rattle.compare.specs.Report.{pass, expectedOf, report}
 use Rattle.compare.specs.Compare.{comparison}
 use Rattle.lines.specs.Lines.{digits, checkpointName, newline}
+use Rattle.reply.specs.Result.{comparedResult, bookResult}
 use Rattle.reply.specs.Text.{verdictLine, actionLine, lastLine, recoveredLines, reportLines, refusedLine}
-use Rattle.reply.specs.Reply.{lentText, bookText, replyText}
+use Rattle.reply.specs.Reply.{replyText}
 
 -- the lines of a text
 abbrev lines : List String → List ℕ
@@ -66,5 +67,5 @@ examples :
     -- a larger file
     × (replyText (replicate 65537 0) [] ≡ lines ("refused 1" ∷ []))
     × (replyText sample (replicate 65537 0) ≡ lines ("refused 1" ∷ []))
-unfolding sample ordersNone stopped answeredRun opening sheetOf bookBytes eventTable replyText bookText lentText recoveredLines reportLines refusedLine verdictLine actionLine lastLine checkpointName digits bookVerdict verdictOf walk found lastEmpty rules firstFault place named namedAmong checkpoints eventName bookLayout partsOk tablesOk offsetsOk eventOk eventHeadOk headOk windowOk rowOk rowCellOk cellOk payloadOk cellOf cellBy le bytesOf sameBytes every records encoded padded sheetLayout sheetPartsOk sheetOffsetsOk headerOk markOk brokerOrderOk wideFieldOk fieldOk allOf sheetOrders sheetPositions recovery roomy steps actionOf queriedAction ordersOut positionsOut marksAt marksBy ordersBy ordersAt intended positionsBy positionsAt positionsOfRows anyWhere tableOk comparison report pass expectedOf
+unfolding sample ordersNone stopped answeredRun opening sheetOf bookBytes eventTable replyText bookResult comparedResult recoveredLines reportLines refusedLine verdictLine actionLine lastLine checkpointName digits bookVerdict verdictOf walk found lastEmpty rules firstFault place named namedAmong checkpoints eventName bookLayout partsOk tablesOk offsetsOk eventOk eventHeadOk headOk windowOk rowOk rowCellOk cellOk payloadOk cellOf cellBy le bytesOf sameBytes every records encoded padded sheetLayout sheetPartsOk sheetOffsetsOk headerOk markOk brokerOrderOk wideFieldOk fieldOk allOf sheetOrders sheetPositions recovery roomy steps actionOf queriedAction ordersOut positionsOut marksAt marksBy ordersBy ordersAt intended positionsBy positionsAt positionsOfRows anyWhere tableOk comparison report pass expectedOf
 examples = (refl, refl, refl, refl, refl, refl, refl)

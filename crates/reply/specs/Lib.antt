@@ -1,3 +1,4 @@
+pub mod Result
 pub mod Text
 pub mod Reply
-pub mod Buffer
+pub mod Lent

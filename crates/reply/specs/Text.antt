@@ -1,7 +1,8 @@
--- The lines of the desk's reply, in document 01's words.
+-- The text of the desk's result, in document 01's words.
 -- Assumes nothing.
 use Prim.Native.Nat.{ℕ}
 use mathlib.Core.List.{List, [], _++_}
+use lib.ListN.{length}
 use Rattle.wire.specs.Table.{encoded}
 use Rattle.checkpoint.specs.Checkpoint.{ascii}
 use Rattle.checkpoint.specs.declared.Checkpoint.{Checkpoint}
@@ -11,6 +12,7 @@ use Rattle.marks.specs.declared.action.RecoveryAction.{RecoveryAction}
 use Rattle.marks.specs.declared.action.RecoveryAction.the-variants.{Restart, Resume, ManualReview}
 use Rattle.recovery.specs.declared.recover.Recovered.{Recovered}
 use Rattle.lines.specs.Lines.{checkpointName, newline, field, line}
+use Rattle.reply.specs.Result.{DeskResult, Refused, Told}
 
 -- refusal number, event counted from 1, checkpoint number
 abbrev pub numbersLine : ℕ × ℕ × ℕ → List ℕ
@@ -42,9 +44,14 @@ recoveredLines v r =
 abbrev pub kindLine : ℕ → List ℕ
 kindLine k = line [] k
 
-unfoldable pub reportLines : ℕ → List ℕ → List ℕ
-reportLines count kinds = line (ascii "report ") count ++ encoded kindLine kinds
+unfoldable pub reportLines : List ℕ → List ℕ
+reportLines kinds = line (ascii "report ") (length kinds) ++ encoded kindLine kinds
 
 -- another refusal
 unfoldable pub refusedLine : ℕ → List ℕ
 refusedLine n = line (ascii "refused ") n
+
+-- the whole text
+abbrev pub resultText : DeskResult → List ℕ
+resultText (Refused n) = refusedLine n
+resultText (Told v r kinds) = recoveredLines v r ++ reportLines kinds

@@ -1,22 +1,18 @@
 // The desk's reply to a book and a sheet, as document 01 prints it.
 //
-// `specs/Reply.antt` has the whole reply, made of the definitions that validation, recovery and comparison promise; `specs/Text.antt` its lines.
+// `specs/Result.antt` has the desk's result as a value, made of the definitions that validation, recovery and comparison promise; `specs/Text.antt` the
+// text of that value; `specs/Reply.antt` the reply.
 mod text;
 
 ghost use mathlib.Core.Path.{_≡_};
-ghost use mathlib.Core.List.{_++_};
-ghost use mathlib.Core.Bool.{false, _&&_};
-ghost use Prim.Native.Nat.{_≤_, _<_};
-ghost use lib.Dec.{eqb};
+ghost use lib.IntN.{pos};
 ghost use lib.ListN.{length, replicate};
-ghost use lib.Seq.{sets};
-ghost use Rattle.wire.specs.Le.{le};
-ghost use Rattle.wire.specs.Table.{records};
 ghost use Rattle.book.specs.Layout.{bookLayout};
 ghost use Rattle.sheet.specs.Sheet.{sheetLayout};
-ghost use Rattle.reply.specs.Text.{recoveredLines, reportLines};
-ghost use Rattle.reply.specs.Buffer.{Puts};
-ghost use Rattle.reply.specs.Reply.{fileLayout, firstRefusal, filesLayout, lentText, bookText, replyText, replied, replyOut};
+ghost use Rattle.reply.specs.Result.{fileLayout, firstRefusal, filesLayout, comparedResult, bookResult};
+ghost use Rattle.reply.specs.Text.{resultText};
+ghost use Rattle.reply.specs.Reply.{replyText, replied, replyOut};
+ghost use Rattle.reply.specs.Lent.{resultIn, Writes, Puts};
 use audit::validate::Verdict;
 use compare::Comparison;
 use recovery::recover::Recovered;
@@ -27,6 +23,12 @@ use wire::layout::Layout;
 pub enum Replied {
     Done(usize),
     NoRoom,
+}
+
+// A desk result whose report is in lent bytes: a refusal's number; or the verdict, the recovery and how many records the report has.
+pub enum LentResult {
+    Refused(u64),
+    Told(Verdict, Recovered, usize),
 }
 
 // Refusals 1 and 2 of the book's file and of the sheet's; the first of two refusals; the book's before the sheet's.
@@ -66,59 +68,46 @@ fn files_layout(book: &[u8], sheet: &[u8]) -> Layout
     first_refusal(b, s)
 }
 
-// All lines, the report's kinds read from its first `count` records.
-fn put_lines(d: &mut [u8], v: Verdict, r: Recovered, report: &[u8], count: usize) -> usize
-    requires { ⌜ count < 1366 ⌝ }
-    ensures { λ x. ⌜ (x ≡ length (recoveredLines v r ++ reportLines count (records (le 4) 48 count (now (report .entry))))) × (now (d .exit) ≡ sets (now (d .entry)) 0 (recoveredLines v r ++ reportLines count (records (le 4) 48 count (now (report .entry))))) ⌝ }
-{
-    let n = text::put_recovered(d, 0, v, r);
-    n + text::put_report(d, n, report, count)
-}
-
-// The lines of a recovery with its orders and positions, or a refusal's, by a buffer for the report.
-fn put_compared(
-    d: &mut [u8],
+// The result of a verdict and a recovery, by the recovered orders and positions and the sheet.
+fn compared_result(
     v: Verdict,
     r: Recovered,
     orders: &[u8],
     positions: &[u8],
     sheet: &[u8],
     report: &mut [u8],
-) -> Replied
-    requires { ⌜ length (now report) ≤ 65536 ⌝ }
-    ensures { λ x. ⌜ Puts x (eqb (length (now (report .entry))) 65536) (lentText v r (now (orders .entry)) (now (positions .entry)) (now (sheet .entry))) (now (d .entry)) (now (d .exit)) ⌝ }
+) -> LentResult
+    ensures { λ x. ⌜ resultIn x (now (report .exit)) ≡ comparedResult (length (now (report .entry))) v r (now (orders .entry)) (now (positions .entry)) (now (sheet .entry)) ⌝ }
 {
     let marks = r.marks;
     match compare::compare_broker_state(marks, orders, positions, sheet, report) {
         Comparison::Done(c) => {
             let count = c.count;
-            Replied::Done(put_lines(d, v, r, report, count))
+            LentResult::Told(v, r, count)
         }
-        Comparison::Oversize => Replied::Done(text::put_refused(d, 1)),
-        Comparison::Broken => Replied::Done(text::put_refused(d, 2)),
-        Comparison::NoRoom => Replied::NoRoom,
+        Comparison::Oversize => LentResult::Refused(1),
+        Comparison::Broken => LentResult::Refused(2),
+        Comparison::NoRoom => LentResult::Refused(3),
     }
 }
 
-// The lines of a sound book and a sheet, or a refusal's, by buffers for the orders and the positions, which are zero, and the report.
-fn put_book_in(
-    d: &mut [u8],
+// The result of a sound book and a sheet, by three buffers of one length; those of the orders and the positions are zero.
+fn book_result(
     book: &[u8],
     sheet: &[u8],
     orders: &mut [u8],
     positions: &mut [u8],
     report: &mut [u8],
-) -> Replied
-    requires { ⌜ (bookLayout (now book) ≡ Layout.Sound) × (now orders ≡ replicate (length (now orders)) 0) × (now positions ≡ replicate (length (now positions)) 0) ⌝ ∗ ⌜ (length (now orders) ≤ 65536) × (length (now positions) ≤ 65536) × (length (now report) ≤ 65536) ⌝ }
-    ensures { λ x. ⌜ Puts x (eqb (length (now (orders .entry))) 65536 && eqb (length (now (positions .entry))) 65536 && eqb (length (now (report .entry))) 65536) (bookText (now (book .entry)) (now (sheet .entry))) (now (d .entry)) (now (d .exit)) ⌝ }
+) -> LentResult
+    requires { ⌜ (bookLayout (now book) ≡ Layout.Sound) × (now orders ≡ replicate (length (now report)) 0) × (now positions ≡ replicate (length (now report)) 0) ⌝ }
+    ensures { λ x. ⌜ resultIn x (now (report .exit)) ≡ bookResult (length (now (report .entry))) (pos 0) (now (book .entry)) (now (sheet .entry)) ⌝ }
 {
     match recovery::recover::recover(book, 0, orders, positions) {
         Recovery::Done(r) => {
             let n = 64 * (r.orders as usize);
             let m = 32 * (r.positions as usize);
             let v = audit::validate::validate_sound(book);
-            put_compared(
-                d,
+            compared_result(
                 v,
                 r,
                 wire::part(orders, 0, n),
@@ -127,68 +116,52 @@ fn put_book_in(
                 report,
             )
         }
-        Recovery::Oversize => Replied::NoRoom,
-        Recovery::Broken => Replied::NoRoom,
-        Recovery::NoRoom => Replied::NoRoom,
+        Recovery::Oversize => LentResult::Refused(1),
+        Recovery::Broken => LentResult::Refused(2),
+        Recovery::NoRoom => LentResult::Refused(3),
     }
 }
 
-// The same by short buffers.
+// The text of a sound book's result, by short buffers; none where they do not suffice.
 fn put_short(d: &mut [u8], book: &[u8], sheet: &[u8]) -> Replied
     requires { ⌜ bookLayout (now book) ≡ Layout.Sound ⌝ }
-    ensures { λ x. ⌜ Puts x false (bookText (now (book .entry)) (now (sheet .entry))) (now (d .entry)) (now (d .exit)) ⌝ }
+    ensures { λ x. ⌜ Puts x (resultText (bookResult 65536 (pos 0) (now (book .entry)) (now (sheet .entry)))) (now (d .entry)) (now (d .exit)) ⌝ }
 {
     let mut orders = [0u8; 4096];
-    let mut positions = [0u8; 2048];
+    let mut positions = [0u8; 4096];
     let mut report = [0u8; 4096];
-    put_book_in(d, book, sheet, &mut orders, &mut positions, &mut report)
+    let x = book_result(book, sheet, &mut orders, &mut positions, &mut report);
+    match x {
+        LentResult::Refused(_) => Replied::NoRoom,
+        LentResult::Told(v, r, count) => Replied::Done(text::put_told(d, v, r, &report, count)),
+    }
 }
 
-// The same by buffers of which the orders' has room for as many as a book of 65,536 bytes has events.
-fn put_middle(d: &mut [u8], book: &[u8], sheet: &[u8]) -> Replied
-    requires { ⌜ bookLayout (now book) ≡ Layout.Sound ⌝ }
-    ensures { λ x. ⌜ Puts x false (bookText (now (book .entry)) (now (sheet .entry))) (now (d .entry)) (now (d .exit)) ⌝ }
-{
-    let mut orders = [0u8; 17536];
-    let mut positions = [0u8; 8192];
-    let mut report = [0u8; 24576];
-    put_book_in(d, book, sheet, &mut orders, &mut positions, &mut report)
-}
-
-// The same by buffers of 65,536 bytes: where one is too short, refusal 3's line.
+// The same by buffers of 65,536 bytes: where they do not suffice, the text is a refusal's.
 fn put_long(d: &mut [u8], book: &[u8], sheet: &[u8]) -> usize
     requires { ⌜ bookLayout (now book) ≡ Layout.Sound ⌝ }
-    ensures { λ x. ⌜ (x ≡ length (bookText (now (book .entry)) (now (sheet .entry)))) × (now (d .exit) ≡ sets (now (d .entry)) 0 (bookText (now (book .entry)) (now (sheet .entry)))) ⌝ }
+    ensures { λ x. ⌜ Writes x (resultText (bookResult 65536 (pos 0) (now (book .entry)) (now (sheet .entry)))) (now (d .entry)) (now (d .exit)) ⌝ }
 {
     let mut orders = [0u8; 65536];
     let mut positions = [0u8; 65536];
     let mut report = [0u8; 65536];
-    match put_book_in(d, book, sheet, &mut orders, &mut positions, &mut report) {
-        Replied::Done(n) => n,
-        Replied::NoRoom => text::put_refused(d, 3),
+    let x = book_result(book, sheet, &mut orders, &mut positions, &mut report);
+    match x {
+        LentResult::Refused(n) => text::put_refused(d, n),
+        LentResult::Told(v, r, count) => text::put_told(d, v, r, &report, count),
     }
 }
 
-// The same by short buffers for short files, and by longer ones for others.
-fn put_tried(d: &mut [u8], book: &[u8], sheet: &[u8]) -> Replied
-    requires { ⌜ bookLayout (now book) ≡ Layout.Sound ⌝ }
-    ensures { λ x. ⌜ Puts x false (bookText (now (book .entry)) (now (sheet .entry))) (now (d .entry)) (now (d .exit)) ⌝ }
-{
-    if 8192 < book.len() + sheet.len() {
-        return put_middle(d, book, sheet);
-    }
-    put_short(d, book, sheet)
-}
-
-// The lines of a sound book and a sheet, or a refusal's. A long sheet goes by long buffers, and so does what the others do not suffice for.
+// The same by short buffers, or by long ones where those do not suffice: a short reply takes a short frame. Files of more than 16,384 bytes go by long ones
+// at once, so that little is worked out twice.
 fn put_book(d: &mut [u8], book: &[u8], sheet: &[u8]) -> usize
     requires { ⌜ bookLayout (now book) ≡ Layout.Sound ⌝ }
-    ensures { λ x. ⌜ (x ≡ length (bookText (now (book .entry)) (now (sheet .entry)))) × (now (d .exit) ≡ sets (now (d .entry)) 0 (bookText (now (book .entry)) (now (sheet .entry)))) ⌝ }
+    ensures { λ x. ⌜ Writes x (resultText (bookResult 65536 (pos 0) (now (book .entry)) (now (sheet .entry)))) (now (d .entry)) (now (d .exit)) ⌝ }
 {
-    if 8192 < sheet.len() {
+    if 16384 < book.len() + sheet.len() {
         return put_long(d, book, sheet);
     }
-    match put_tried(d, book, sheet) {
+    match put_short(d, book, sheet) {
         Replied::Done(n) => n,
         Replied::NoRoom => put_long(d, book, sheet),
     }
@@ -196,7 +169,7 @@ fn put_book(d: &mut [u8], book: &[u8], sheet: &[u8]) -> usize
 
 // The whole reply.
 fn put_reply(d: &mut [u8], book: &[u8], sheet: &[u8]) -> usize
-    ensures { λ x. ⌜ (x ≡ length (replyText (now (book .entry)) (now (sheet .entry)))) × (now (d .exit) ≡ sets (now (d .entry)) 0 (replyText (now (book .entry)) (now (sheet .entry)))) ⌝ }
+    ensures { λ x. ⌜ Writes x (replyText (now (book .entry)) (now (sheet .entry))) (now (d .entry)) (now (d .exit)) ⌝ }
 {
     match files_layout(book, sheet) {
         Layout::Sound => put_book(d, book, sheet),
@@ -205,7 +178,7 @@ fn put_reply(d: &mut [u8], book: &[u8], sheet: &[u8]) -> usize
     }
 }
 
-// Entry. The reply to a book and a sheet as text at the start of `out`, and zeros behind it. Refusal 3 where `out` cannot take the text.
+// Entry. The reply to a book and a sheet as text at the start of `out`, and zeros after it. Refusal 3 where `out` cannot take the text.
 pub fn reply(book: &[u8], sheet: &[u8], out: &mut [u8]) -> Replied
     ensures { λ r. ⌜ (r ≡ replied (replyText (now (book .entry)) (now (sheet .entry))) (length (now (out .entry)))) × (now (out .exit) ≡ replyOut (replyText (now (book .entry)) (now (sheet .entry))) (length (now (out .entry)))) ⌝ }
 {

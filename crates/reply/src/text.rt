@@ -1,56 +1,25 @@
-// The lines of the reply, each written from `at` on. Each function returns how many bytes it wrote.
+// The lines of the reply, each written from `at` on, or from the start. Each function returns how many bytes it wrote.
 ghost use mathlib.Core.Path.{_≡_};
 ghost use Prim.Native.Nat.{_<_};
 ghost use lib.ListN.{length};
 ghost use lib.Seq.{sets};
 ghost use Rattle.wire.specs.Le.{le};
 ghost use Rattle.wire.specs.Table.{records, encoded};
-ghost use Rattle.audit.specs.Verdict.{verdictNumbers};
-ghost use Rattle.reply.specs.Text.{verdictLine, actionLine, lastLine, recoveredLines, kindLine, reportLines, refusedLine};
+ghost use Rattle.reply.specs.Result.{Told};
+ghost use Rattle.reply.specs.Text.{verdictLine, actionLine, lastLine, recoveredLines, kindLine, reportLines, refusedLine, resultText};
+ghost use Rattle.reply.specs.Lent.{Writes};
 use audit::validate::Verdict;
 use checkpoint::Checkpoint;
 use marks::action::RecoveryAction;
 use recovery::recover::Recovered;
 
-// The verdict's three numbers.
-pub struct VerdictNumbers {
-    pub refusal: u64,
-    pub event: u64,
-    pub checkpoint: u64,
-}
-
-fn three(refusal: u64, event: u32, checkpoint: u32) -> VerdictNumbers
-    ensures { λ n. ⌜ (n .refusal ≡ refusal) × (n .event ≡ event) × (n .checkpoint ≡ checkpoint) ⌝ }
+fn put_verdict(d: &mut [u8], v: Verdict) -> usize
+    ensures { λ r. ⌜ Writes r (verdictLine v) (now (d .entry)) (now (d .exit)) ⌝ ∗ ⌜ r < 100 ⌝ }
 {
-    VerdictNumbers {
-        refusal,
-        event: event as u64,
-        checkpoint: checkpoint as u64,
-    }
-}
-
-fn verdict_numbers(v: Verdict) -> VerdictNumbers
-    ensures { λ n. ⌜ (n .refusal ≡ verdictNumbers v .0) × (n .event ≡ verdictNumbers v .1) × (n .checkpoint ≡ verdictNumbers v .2) ⌝ }
-{
-    match v {
-        Verdict::Accepted => three(0, 0, 0),
-        Verdict::Oversize => three(1, 0, 0),
-        Verdict::Broken => three(2, 0, 0),
-        Verdict::Unnumbered(i) => three(4, i, 0),
-        Verdict::NotRising(i) => three(5, i, 0),
-        Verdict::Missing(k) => three(6, 0, k.number()),
-        Verdict::OutOfOrder(k) => three(7, 0, k.number()),
-    }
-}
-
-fn put_verdict(d: &mut [u8], at: usize, v: Verdict) -> usize
-    requires { ⌜ at < 65000 ⌝ }
-    ensures { λ r. ⌜ (r ≡ length (verdictLine v)) × (now (d .exit) ≡ sets (now (d .entry)) at (verdictLine v)) × (r < 100) ⌝ }
-{
-    let x = verdict_numbers(v);
-    let n = lines::put_field(d, at, b"verdict ", x.refusal);
-    let m = n + lines::put_field(d, at + n, b" ", x.event);
-    m + lines::put_line(d, at + m, b" ", x.checkpoint)
+    let x = audit::validate::verdict_numbers(v);
+    let n = lines::put_field(d, 0, b"verdict ", x.0 as u64);
+    let m = n + lines::put_field(d, n, b" ", x.1 as u64);
+    m + lines::put_line(d, m, b" ", x.2 as u64)
 }
 
 fn put_action(d: &mut [u8], at: usize, a: RecoveryAction) -> usize
@@ -73,18 +42,17 @@ fn put_last(d: &mut [u8], at: usize, k: Checkpoint, number: u64) -> usize
 }
 
 // The lines of a verdict and a recovery.
-pub fn put_recovered(d: &mut [u8], at: usize, v: Verdict, r: Recovered) -> usize
-    requires { ⌜ at < 60000 ⌝ }
-    ensures { λ x. ⌜ (x ≡ length (recoveredLines v r)) × (now (d .exit) ≡ sets (now (d .entry)) at (recoveredLines v r)) × (x < 500) ⌝ }
+fn put_recovered(d: &mut [u8], v: Verdict, r: Recovered) -> usize
+    ensures { λ x. ⌜ Writes x (recoveredLines v r) (now (d .entry)) (now (d .exit)) ⌝ ∗ ⌜ x < 500 ⌝ }
 {
     let marks = r.marks;
     let k = marks.checkpoint;
     let action = r.action;
-    let a = put_verdict(d, at, v);
-    let b = a + put_action(d, at + a, action);
-    let c = b + put_last(d, at + b, k, marks.number);
-    let e = c + lines::put_line(d, at + c, b"orders ", r.orders as u64);
-    e + lines::put_line(d, at + e, b"positions ", r.positions as u64)
+    let a = put_verdict(d, v);
+    let b = a + put_action(d, a, action);
+    let c = b + put_last(d, b, k, marks.number);
+    let e = c + lines::put_line(d, c, b"orders ", r.orders as u64);
+    e + lines::put_line(d, e, b"positions ", r.positions as u64)
 }
 
 // The kinds of a report's first `count` records, a line each.
@@ -102,17 +70,26 @@ fn put_kinds(d: &mut [u8], at: usize, report: &[u8], count: usize) -> usize
 }
 
 // The lines of a report of `count` records.
-pub fn put_report(d: &mut [u8], at: usize, report: &[u8], count: usize) -> usize
+fn put_report(d: &mut [u8], at: usize, report: &[u8], count: usize) -> usize
     requires { ⌜ (at < 900) × (count < 1366) ⌝ }
-    ensures { λ r. ⌜ (r ≡ length (reportLines count (records (le 4) 48 count (now (report .entry))))) × (now (d .exit) ≡ sets (now (d .entry)) at (reportLines count (records (le 4) 48 count (now (report .entry))))) × (r < 31000) ⌝ }
+    ensures { λ r. ⌜ (r ≡ length (reportLines (records (le 4) 48 count (now (report .entry))))) × (now (d .exit) ≡ sets (now (d .entry)) at (reportLines (records (le 4) 48 count (now (report .entry))))) × (r < 31000) ⌝ }
 {
     let n = lines::put_line(d, at, b"report ", count as u64);
     n + put_kinds(d, at + n, report, count)
 }
 
+// All lines of a result, its kinds read from the report's first `count` records.
+pub fn put_told(d: &mut [u8], v: Verdict, r: Recovered, report: &[u8], count: usize) -> usize
+    requires { ⌜ count < 1366 ⌝ }
+    ensures { λ x. ⌜ Writes x (resultText (Told v r (records (le 4) 48 count (now (report .entry))))) (now (d .entry)) (now (d .exit)) ⌝ }
+{
+    let n = put_recovered(d, v, r);
+    n + put_report(d, n, report, count)
+}
+
 // The line of a refusal.
 pub fn put_refused(d: &mut [u8], number: u64) -> usize
-    ensures { λ r. ⌜ (r ≡ length (refusedLine number)) × (now (d .exit) ≡ sets (now (d .entry)) 0 (refusedLine number)) ⌝ }
+    ensures { λ r. ⌜ Writes r (refusedLine number) (now (d .entry)) (now (d .exit)) ⌝ }
 {
     lines::put_line(d, 0, b"refused ", number)
 }

@@ -3,37 +3,39 @@
 -- Assumes nothing.
 use Prim.Native.Nat.{ℕ, _*_, _≤_}
 use mathlib.Core.Path.{_≡_, refl, sym, ap, _∙_}
-use mathlib.Core.List.{List, [], _∷_}
+use mathlib.Core.List.{List, [], _∷_, map}
 use mathlib.Core.Bool.{Bool, true, false, cond}
 use native.Mathlib.Omega.{arith}
 use borrow.Author.Tests.{le-ltb}
 use lib.Dec.{leb}
 use lib.IntN.{pos}
-use lib.ListN.{length, take, drop}
-use Rattle.wire.specs.Table.{encoded, padded}
+use lib.ListN.{length, drop}
+use Rattle.wire.specs.Table.{encoded}
 use Rattle.wire.specs.declared.layout.Layout.the-variants as L
 use Rattle.wire.proofs.Written.{Bytes}
 use Rattle.book.specs.Layout.{bookLayout}
 use Rattle.sheet.specs.Sheet.{sheetLayout}
 use Rattle.records.specs.Record.{orderBytes, positionBytes}
-use Rattle.records.proofs.Orders.{order-size}
-use Rattle.records.proofs.Positions.{position-size}
 use Rattle.audit.specs.Verdict.{bookVerdict}
 use Rattle.audit.specs.declared.validate.Verdict.{Verdict}
-use Rattle.recovery.specs.Recover.{State, stateOf, doneIf}
+use Rattle.recovery.specs.Recover.{State, stateOf}
+use Rattle.recovery.specs.declared.recover.Recovered.{Recovered}
+use Rattle.compare.specs.Report.{discrepancyKind}
 use Rattle.compare.specs.Compare.{comparison, doneIf as comparedIf}
 use Rattle.compare.specs.declared.discrepancy.Discrepancy.{Discrepancy}
 use Rattle.lines.specs.Lines.{digits}
-use Rattle.reply.specs.Text.{verdictLine, recoveredLines, refusedLine}
-use Rattle.reply.specs.Reply.{filesLayout, comparedText, lentText, bookText, replyText}
-use Rattle.reply.proofs.Suffices.{front, text-by}
+use Rattle.reply.specs.Result.{Refused, Told, filesLayout, byComparison, comparedResult, bookResult, deskResult}
+use Rattle.reply.specs.Text.{verdictLine, recoveredLines, refusedLine, resultText}
+use Rattle.reply.specs.Reply.{replyText}
+use Rattle.reply.specs.Lent.{recoveredOf}
+use Rattle.reply.proofs.Parts.{fitting, by-parts}
 use Rattle.sound_state.proofs.Recovered.{recovered-orders-sound, recovered-orders-in, recovered-positions-sound, recovered-positions-in}
-use Rattle.sound_reply.specs.Answered.{recoveredOf, reportOn, allLines, linesIfRoom, answered}
+use Rattle.sound_reply.specs.Answered.{reportOn, toldIfRoom, answered}
 use Rattle.sound_reply.proofs.RoomEnough.{has-room}
 
 -- by the room for the report
 by-room : (v : Verdict) (st : State) (xs : List Discrepancy) (b : Bool)
-    → comparedText v (recoveredOf st) xs (comparedIf b xs) ≡ cond b (allLines v st xs) (refusedLine 3)
+    → byComparison v (recoveredOf st) xs (comparedIf b xs) ≡ cond b (Told v (recoveredOf st) (map discrepancyKind xs)) (Refused 3)
 by-room v st xs true = refl
 by-room v st xs false = refl
 
@@ -42,9 +44,9 @@ abbrev firstByte : List ℕ → ℕ
 firstByte [] = 0
 firstByte (x ∷ xs) = x
 
-lines-first : (v : Verdict) (st : State) (xs : List Discrepancy) → firstByte (allLines v st xs) ≡ 118
+lines-first : (v : Verdict) (r : Recovered) (ks : List ℕ) → firstByte (resultText (Told v r ks)) ≡ 118
 unfolding recoveredLines verdictLine
-lines-first v st xs = refl
+lines-first v r ks = refl
 
 refused-first : (n : ℕ) → firstByte (refusedLine n) ≡ 114
 unfolding refusedLine
@@ -72,15 +74,11 @@ module _ (book sheet : List ℕ) (bytes : Bytes book) (sound : bookLayout book �
   unrefused = rw (le-ltb 65536 (length book) small, sound, le-ltb 65536 (length sheet) lean, listed)
 
   -- recovery has room: refusal 3 can only come from the report
-  recovered : bookText book sheet ≡ lentText v (recoveredOf st) os ps sheet
-  recovered =
-      let e = ap (λ (b : Bool). doneIf b st) (has-room book (pos 0) 65536 65536 sound small small) in
-      text-by book sheet sound 65536 65536 (omega arith) (omega arith) (recoveredOf st) e
-      ∙ ap (λ (o : List ℕ). lentText v (recoveredOf st) o (take (32 * length (st .positions)) (padded 65536 ps)) sheet) (front orderBytes 64 order-size 65536 (st .orders))
-      ∙ ap (λ (p : List ℕ). lentText v (recoveredOf st) os p sheet) (front positionBytes 32 position-size 65536 (st .positions))
+  recovered : bookResult 65536 (pos 0) book sheet ≡ comparedResult 65536 v (recoveredOf st) os ps sheet
+  recovered = rw (by-parts (pos 0) book sheet 65536, sound, has-room book (pos 0) 65536 65536 sound small small) (fitting 65536 v sheet st)
 
-  compared : lentText v (recoveredOf st) os ps sheet ≡ linesIfRoom v st (reportOn st sheet)
-  unfolding lentText comparison
+  compared : comparedResult 65536 v (recoveredOf st) os ps sheet ≡ toldIfRoom v st (reportOn st sheet)
+  unfolding comparedResult comparison
   compared =
       rw (
         listed,
@@ -91,21 +89,25 @@ module _ (book sheet : List ℕ) (bytes : Bytes book) (sound : bookLayout book �
       )
       (by-room v st (reportOn st sheet) (leb (48 * length (reportOn st sheet)) 65536))
 
-  pub reply-answered : replyText book sheet ≡ answered book sheet
-  unfolding replyText answered
-  reply-answered = rw unrefused (recovered ∙ compared)
+  pub result-answered : deskResult book sheet ≡ answered book sheet
+  unfolding answered
+  result-answered = rw unrefused (recovered ∙ compared)
+
+  pub reply-answered : replyText book sheet ≡ resultText (answered book sheet)
+  unfolding replyText
+  reply-answered = ap resultText result-answered
 
   -- so it is no other refusal
-  not-refused : (n : ℕ) (b : Bool) → (refusedLine 3 ≡ refusedLine n → ⊥)
-      → cond b (allLines v st (reportOn st sheet)) (refusedLine 3) ≡ refusedLine n → ⊥
-  not-refused n true f e =
-      let z : _≡_ {A = ℕ} 118 114 = sym (lines-first v st (reportOn st sheet)) ∙ ap firstByte e ∙ refused-first n in omega arith
-  not-refused n false f e = f e
+  not-refused : (n : ℕ) (b : Bool) (r : Recovered) (ks : List ℕ) → (refusedLine 3 ≡ refusedLine n → ⊥)
+      → resultText (cond b (Told v r ks) (Refused 3)) ≡ refusedLine n → ⊥
+  not-refused n true r ks f e =
+      let z : _≡_ {A = ℕ} 118 114 = sym (lines-first v r ks) ∙ ap firstByte e ∙ refused-first n in omega arith
+  not-refused n false r ks f e = f e
 
   module _ (n : ℕ) (other : refusedLine 3 ≡ refusedLine n → ⊥) where
-    not-answered : answered book sheet ≡ refusedLine n → ⊥
+    not-answered : resultText (answered book sheet) ≡ refusedLine n → ⊥
     unfolding answered
-    not-answered e = not-refused n (leb (48 * length (reportOn st sheet)) 65536) other e
+    not-answered = not-refused n (leb (48 * length (reportOn st sheet)) 65536) (recoveredOf st) (map discrepancyKind (reportOn st sheet)) other
 
     never : replyText book sheet ≡ refusedLine n → ⊥
     never e = not-answered (sym reply-answered ∙ e)

@@ -15,8 +15,9 @@ use Rattle.book.specs.Time.{timeLayout}
 use Rattle.sheet.specs.Sheet.{brokerOrderOk, headerOk, markOk, offsetsOk as sheetOffsetsOk, partsOk as sheetPartsOk, sheetLayout}
 use Rattle.audit.proofs.BookBytes.{eventTable, bookBytes}
 use Rattle.recovery.specs.Recover.{recovery}
-use Rattle.reply.specs.Text.{refusedLine}
-use Rattle.reply.specs.Reply.{bookTextAt, replyText}
+use Rattle.reply.specs.Result.{Refused, bookResult, deskResultAt}
+use Rattle.reply.specs.Text.{resultText}
+use Rattle.reply.specs.Reply.{replyText}
 use Rattle.reply.proofs.ReplyExamples.{opening, answeredRun, sample, sheetOf}
 use Rattle.sound_state.proofs.Tables.{bytes-if}
 use Rattle.sound_reply.specs.Answered.{answered}
@@ -34,13 +35,13 @@ sheet-sound : sheetLayout (sheetOf []) ≡ L.Sound
 unfolding sheetOf bytesOf encoded sheetLayout sheetPartsOk sheetOffsetsOk headerOk markOk brokerOrderOk wideFieldOk fieldOk allOf le every
 sheet-sound = refl
 
-pub sample-answered : replyText sample (sheetOf []) ≡ answered sample (sheetOf [])
+pub sample-answered : replyText sample (sheetOf []) ≡ resultText (answered sample (sheetOf []))
 unfolding sample answeredRun opening bookBytes eventTable bytesOf sheetOf encoded
 sample-answered = reply-answered sample (sheetOf []) sample-bytes sample-sound (lit≤ tt) sheet-sound (lit≤ tt)
 
 times : (timeLayout (pos 1767225600000) ≡ L.Sound) × (timeLayout (negsuc 0) ≡ L.Broken)
 times = (refl, refl)
 
-before-1970 : bookTextAt (negsuc 0) sample (sheetOf []) ≡ refusedLine 2
-unfolding recovery refusedLine sample answeredRun opening bookBytes eventTable bytesOf encoded bookLayout partsOk tablesOk offsetsOk eventOk eventHeadOk headOk windowOk rowOk rowCellOk cellOk payloadOk le every
+before-1970 : deskResultAt (negsuc 0) sample (sheetOf []) ≡ Refused 2
+unfolding bookResult recovery sample answeredRun opening bookBytes eventTable bytesOf encoded bookLayout partsOk tablesOk offsetsOk eventOk eventHeadOk headOk windowOk rowOk rowCellOk cellOk payloadOk le every sheetOf sheetLayout sheetPartsOk headerOk sheetOffsetsOk markOk
 before-1970 = refl

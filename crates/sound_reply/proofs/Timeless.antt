@@ -5,26 +5,26 @@ use mathlib.Core.Path.{_≡_, refl, sym, ap, _∙_}
 use mathlib.Core.List.{List, [], _∷_}
 use mathlib.Core.Bool.{Bool, true, false, _&&_}
 use lib.IntN.{ℤ, pos}
-use Rattle.wire.specs.Table.{encoded}
 use Rattle.wire.specs.Layout.{bothOf}
 use Rattle.wire.specs.declared.layout.Layout.{Layout}
 use Rattle.wire.specs.declared.layout.Layout.the-variants as L
 use Rattle.book.specs.Layout.{bookLayout}
 use Rattle.book.specs.Time.{timeLayout}
-use Rattle.records.specs.Record.{orderBytes, positionBytes}
 use Rattle.audit.specs.Verdict.{bookVerdict}
 use Rattle.audit.specs.declared.validate.Verdict.{Verdict}
 use Rattle.marks.specs.Action.{queriedAction, actionOf}
 use Rattle.effects.specs.Event.{Event, eventsOf}
-use Rattle.recovery.specs.Recover.{State, firstState, step, fits, roomy, stateOf, doneIf, refusedOr, bytesIf, recovery, ordersOut, positionsOut}
+use Rattle.recovery.specs.Recover.{State, firstState, step, fits, roomy, stateOf}
 use Rattle.compare.specs.Report.{report}
 use Rattle.compare.specs.Compare.{lentReport, comparison}
 use Rattle.compare.specs.declared.discrepancy.Discrepancy.{Discrepancy}
 use Rattle.compare.specs.declared.Comparison.{Comparison}
 use Rattle.compare.specs.declared.Comparison.the-variants as C
-use Rattle.reply.specs.Text.{recoveredLines}
-use Rattle.reply.specs.Reply.{comparedText, lentText, recoveredText, bookTextAt, bookText, unlessRefused, filesLayout, replyText}
-use Rattle.sound_reply.specs.Answered.{recoveredOf}
+use Rattle.reply.specs.Result.{DeskResult, filesLayout, unlessRefused, byComparison, comparedResult, bookResult, deskResultAt}
+use Rattle.reply.specs.Text.{recoveredLines, resultText}
+use Rattle.reply.specs.Reply.{replyText}
+use Rattle.reply.specs.Lent.{recoveredOf}
+use Rattle.reply.proofs.Parts.{partsResult, by-parts}
 use Rattle.sound_state.proofs.Recovered.{timeless, ButTime, step-but-time, time-apart}
 
 abbrev untimed : State → State
@@ -36,21 +36,20 @@ untimed-same a b h = rw (h .marks, h .orders, h .positions)
 -- the text by the layouts, the room and the state
 module _ (v : Verdict) (sheet : List ℕ) where
   abbrev textBy : Layout → Bool → State → List ℕ
-  textBy l b st =
-      let x = refusedOr l (doneIf b st) in
-      recoveredText x v (bytesIf x 65536 (encoded orderBytes (st .orders))) (bytesIf x 65536 (encoded positionBytes (st .positions))) sheet
+  textBy l b st = resultText (partsResult 65536 v sheet l b st)
 
   module _ (st : State) where
     compared-untimed : (xs : List Discrepancy) (x : Comparison)
-        → comparedText v (recoveredOf st) xs x ≡ comparedText v (recoveredOf (untimed st)) xs x
+        → resultText (byComparison v (recoveredOf st) xs x) ≡ resultText (byComparison v (recoveredOf (untimed st)) xs x)
     unfolding recoveredLines actionOf queriedAction
     compared-untimed xs (C.Done c) = refl
     compared-untimed xs C.Oversize = refl
     compared-untimed xs C.Broken = refl
     compared-untimed xs C.NoRoom = refl
 
-    lent-untimed : (os ps : List ℕ) → lentText v (recoveredOf st) os ps sheet ≡ lentText v (recoveredOf (untimed st)) os ps sheet
-    unfolding lentText comparison report
+    lent-untimed : (os ps : List ℕ)
+        → resultText (comparedResult 65536 v (recoveredOf st) os ps sheet) ≡ resultText (comparedResult 65536 v (recoveredOf (untimed st)) os ps sheet)
+    unfolding comparedResult comparison report
     lent-untimed os ps = compared-untimed (lentReport (st .marks) os ps sheet) (comparison (st .marks) os ps sheet 65536)
 
   text-untimed : (l : Layout) (b : Bool) (st : State) → textBy l b st ≡ textBy l b (untimed st)
@@ -72,22 +71,20 @@ roomy-but-time orders positions (e ∷ es) a b h =
     ap (λ (x : Bool). x && roomy orders positions (step e a) es) f
     ∙ ap (λ (x : Bool). fits orders positions (step e b) && x) (roomy-but-time orders positions es (step e a) (step e b) k)
 
-pub any-time : (time : ℤ) → timeLayout time ≡ L.Sound → (book sheet : List ℕ) → bookTextAt time book sheet ≡ bookText book sheet
-unfolding bookText recovery ordersOut positionsOut
+pub any-time : (time : ℤ) → timeLayout time ≡ L.Sound → (book sheet : List ℕ)
+    → resultText (bookResult 65536 time book sheet) ≡ resultText (bookResult 65536 (pos 0) book sheet)
 any-time time valid book sheet =
-    let v = bookVerdict book in
-    let es = eventsOf book in
-    let now = stateOf book time in
-    let then = stateOf book (pos 0) in
-    let h = time-apart book time (pos 0) in
-    let l = ap (bothOf (bookLayout book)) valid in
-    let r = roomy-but-time 65536 65536 es (firstState time) (firstState (pos 0)) (record { marks = refl; orders = refl; positions = refl }) in
-    ap (λ (x : Layout). textBy v sheet x (roomy 65536 65536 (firstState time) es) now) l
-    ∙ ap (λ (b : Bool). textBy v sheet (bothOf (bookLayout book) L.Sound) b now) r
-    ∙ text-but-time v sheet (bothOf (bookLayout book) L.Sound) (roomy 65536 65536 (firstState (pos 0)) es) now then h
+    let r = roomy-but-time 65536 65536 (eventsOf book) (firstState time) (firstState (pos 0)) (record { marks = refl; orders = refl; positions = refl }) in
+    rw (by-parts time book sheet 65536, by-parts (pos 0) book sheet 65536, valid, r)
+    (text-but-time (bookVerdict book) sheet (bothOf (bookLayout book) L.Sound) (roomy 65536 65536 (firstState (pos 0)) (eventsOf book)) (stateOf book time)
+    (stateOf book (pos 0)) (time-apart book time (pos 0)))
 
 -- so the whole reply is the same
-pub reply-any-time : (time : ℤ) → timeLayout time ≡ L.Sound → (book sheet : List ℕ)
-    → unlessRefused (filesLayout book sheet) (bookTextAt time book sheet) ≡ replyText book sheet
+unless-same : (l : Layout) (x y : DeskResult) → resultText x ≡ resultText y → resultText (unlessRefused l x) ≡ resultText (unlessRefused l y)
+unless-same L.Sound x y e = e
+unless-same L.Oversize x y e = refl
+unless-same L.Broken x y e = refl
+
+pub reply-any-time : (time : ℤ) → timeLayout time ≡ L.Sound → (book sheet : List ℕ) → resultText (deskResultAt time book sheet) ≡ replyText book sheet
 unfolding replyText
-reply-any-time time valid book sheet = ap (unlessRefused (filesLayout book sheet)) (any-time time valid book sheet)
+reply-any-time time valid book sheet = unless-same (filesLayout book sheet) _ _ (any-time time valid book sheet)

@@ -4,6 +4,9 @@ use borrow.Author.Needs.{needs}
 use Rattle.reply.proofs.put_book.Statement.{statement}
 use Rattle.reply.proofs.put_book.Tie as tie
 
+add-if1 : tie.Need-add-if1
+add-if1 c = search needs
+
 put-long-requires : tie.Need-put-long-requires
 put-long-requires c κs = search needs
 
@@ -13,8 +16,8 @@ same-length c = search needs
 returns : tie.Need-returns
 returns c = search needs
 
-put-tried-requires : tie.Need-put-tried-requires
-put-tried-requires c κs = search needs
+put-short-requires : tie.Need-put-short-requires
+put-short-requires c κs = search needs
 
 enum-known-n : tie.Need-enum-known-n
 enum-known-n c = search needs
@@ -29,25 +32,26 @@ same-length-2 : tie.Need-same-length-2
 same-length-2 c = search needs
 
 returns-2 : tie.Need-returns-2
-returns-2 c = rw (c .before .n .given .1) at (c .before .before .before .before .before .put-tried .ensures)
+returns-2 c = rw (c .before .n .given .1) at (c .before .before .before .before .before .put-short .ensures)
 
 same-length-3 : tie.Need-same-length-3
 same-length-3 c = search needs
 
 returns-3 : tie.Need-returns-3
 returns-3 c =
-    let w = rw (c .before .before .before .before .enum-told .given .1) at (c .before .before .before .before .before .before .before .before .put-tried .ensures) in
+    let w = rw (c .before .before .before .before .enum-told .given .1) at (c .before .before .before .before .before .before .before .before .put-short .ensures) in
     let p = c .before .before .put-long2 .ensures in
-    (p .0, p .1 ∙ rw (w .0))
+    (p .0, p .1 ∙ rw w)
 
 pub put-book-spec : {M : Type 1} → statement M
 put-book-spec =
     tie.close
     (tie.spec
+    add-if1
     put-long-requires
     same-length
     returns
-    put-tried-requires
+    put-short-requires
     enum-known-n
     enum-told
     put-long-requires-2

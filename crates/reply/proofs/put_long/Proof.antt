@@ -1,59 +1,69 @@
--- `reply::put_long`: the buffers are as long as the desk lends them.
-use mathlib.Core.Path.{_∙_}
-use borrow.Author.Needs.{needs}
+-- `reply::put_long`: by the result.
+use denote.Ref.{now}
 use lib.Dec.{lit≤}
-use Rattle.reply.proofs.Suffices.{blank, all-long}
+use Rattle.reply.proofs.Parts.{count-few, told-longer, refused-by}
+use borrow.Author.Needs.{needs}
 use Rattle.reply.proofs.put_long.Statement.{statement}
 use Rattle.reply.proofs.put_long.Tie as tie
 
-slice-aggregate-put-book-in : tie.Need-slice-aggregate-put-book-in
-slice-aggregate-put-book-in c = search needs
+slice-aggregate-book-result : tie.Need-slice-aggregate-book-result
+slice-aggregate-book-result c = search needs
 
-slice-aggregate-put-book-in-2 : tie.Need-slice-aggregate-put-book-in-2
-slice-aggregate-put-book-in-2 c = search needs
+slice-aggregate-book-result-2 : tie.Need-slice-aggregate-book-result-2
+slice-aggregate-book-result-2 c = search needs
 
-slice-aggregate-put-book-in-3 : tie.Need-slice-aggregate-put-book-in-3
-slice-aggregate-put-book-in-3 c = search needs
+slice-aggregate-book-result-3 : tie.Need-slice-aggregate-book-result-3
+slice-aggregate-book-result-3 c = search needs
 
-put-book-in-requires : tie.Need-put-book-in-requires
-put-book-in-requires c κs = let b = blank 65536 (lit≤ tt) in ((c .before .before .before .before .before .before .before .pre, b .0, b .0), (b .1, b .1, b .1))
+book-result-requires : tie.Need-book-result-requires
+book-result-requires c κs = search needs
 
-enum-known-n : tie.Need-enum-known-n
-enum-known-n c = search needs
-
-enum-told : tie.Need-enum-told
-enum-told c = search needs
+enum-known-x : tie.Need-enum-known-x
+enum-known-x c = search needs
 
 put-refused-requires : tie.Need-put-refused-requires
 put-refused-requires c κs = search needs
+
+enum-known-x-2 : tie.Need-enum-known-x-2
+enum-known-x-2 c = search needs
+
+slice-aggregate-put-told : tie.Need-slice-aggregate-put-told
+slice-aggregate-put-told c = search needs
+
+put-told-requires : tie.Need-put-told-requires
+put-told-requires c κs =
+    let a = c .before .before .before .before .before .before .before .before .before .before .before .before .before .before .before .args in
+    count-few (now (a .book)) (now (a .sheet)) 65536 (lit≤ tt) _ _ _ _ (rw (c .before .before .before .x2 .given .1) at (c .before .before .before .before .before .before .before .before .book-result .ensures))
 
 same-length : tie.Need-same-length
 same-length c = search needs
 
 returns : tie.Need-returns
-returns c = rw (c .before .n .given .1) at (c .before .before .before .before .before .before .before .before .put-book-in .ensures)
+returns c =
+    let a = c .before .before .before .before .before .before .before .before .before .before .before .before .before .before .before .before .before .args in
+    rw (refused-by (now (a .book)) (now (a .sheet)) 65536 _ (rw (c .before .before .before .before .before .x .given .1) at (c .before .before .before .before .before .before .before .before .before .before .book-result .ensures))) (c .before .before .put-refused .ensures)
 
 same-length-2 : tie.Need-same-length-2
 same-length-2 c = search needs
 
 returns-2 : tie.Need-returns-2
 returns-2 c =
-    let w = rw (c .before .before .before .before .enum-told .given .1) at (c .before .before .before .before .before .before .before .before .before .before .before .put-book-in .ensures) in
-    let p = c .before .before .put-refused .ensures in
-    let t = w .1 (all-long 65536) in
-    (rw t (p .0), p .1 ∙ rw (w .0, t))
+    let a = c .before .before .before .before .before .before .before .before .before .before .before .before .before .before .before .before .before .before .args in
+    rw (told-longer (now (a .book)) (now (a .sheet)) 65536 (lit≤ tt) _ _ _ _ (rw (c .before .before .before .before .before .before .x2 .given .1) at (c .before .before .before .before .before .before .before .before .before .before .before .book-result .ensures))) (c .before .before .put-told .ensures)
 
 pub put-long-spec : {M : Type 1} → statement M
 put-long-spec =
     tie.close
     (tie.spec
-    slice-aggregate-put-book-in
-    slice-aggregate-put-book-in-2
-    slice-aggregate-put-book-in-3
-    put-book-in-requires
-    enum-known-n
-    enum-told
+    slice-aggregate-book-result
+    slice-aggregate-book-result-2
+    slice-aggregate-book-result-3
+    book-result-requires
+    enum-known-x
     put-refused-requires
+    enum-known-x-2
+    slice-aggregate-put-told
+    put-told-requires
     same-length
     returns
     same-length-2

@@ -3,7 +3,7 @@ use mathlib.Core.Path.{sym, _∙_}
 use borrow.Author.Needs.{needs}
 use denote.Ref.{now}
 use Rattle.reply.specs.Reply.{replyText}
-use Rattle.reply.proofs.Suffices.{book-sound}
+use Rattle.reply.proofs.Parts.{book-sound}
 use Rattle.reply.proofs.put_reply.Statement.{statement}
 use Rattle.reply.proofs.put_reply.Tie as tie
 

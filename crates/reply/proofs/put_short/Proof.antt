@@ -1,38 +1,60 @@
--- `reply::put_short`: none of the buffers is long.
-use borrow.Author.Needs.{needs}
+-- `reply::put_short`: what short buffers suffice for is what long ones give.
+use denote.Ref.{now}
 use lib.Dec.{lit≤}
-use Rattle.reply.proofs.Suffices.{blank}
+use Rattle.reply.proofs.Parts.{count-few, told-longer}
+use borrow.Author.Needs.{needs}
 use Rattle.reply.proofs.put_short.Statement.{statement}
 use Rattle.reply.proofs.put_short.Tie as tie
 
-slice-aggregate-put-book-in : tie.Need-slice-aggregate-put-book-in
-slice-aggregate-put-book-in c = search needs
+slice-aggregate-book-result : tie.Need-slice-aggregate-book-result
+slice-aggregate-book-result c = search needs
 
-slice-aggregate-put-book-in-2 : tie.Need-slice-aggregate-put-book-in-2
-slice-aggregate-put-book-in-2 c = search needs
+slice-aggregate-book-result-2 : tie.Need-slice-aggregate-book-result-2
+slice-aggregate-book-result-2 c = search needs
 
-slice-aggregate-put-book-in-3 : tie.Need-slice-aggregate-put-book-in-3
-slice-aggregate-put-book-in-3 c = search needs
+slice-aggregate-book-result-3 : tie.Need-slice-aggregate-book-result-3
+slice-aggregate-book-result-3 c = search needs
 
-put-book-in-requires : tie.Need-put-book-in-requires
-put-book-in-requires c κs =
-    let b = blank 4096 (lit≤ tt) in
-    let p = blank 2048 (lit≤ tt) in
-    ((c .before .before .before .before .before .before .before .pre, b .0, p .0), (b .1, p .1, b .1))
+book-result-requires : tie.Need-book-result-requires
+book-result-requires c κs = search needs
+
+enum-told : tie.Need-enum-told
+enum-told c = search needs
+
+enum-known-x : tie.Need-enum-known-x
+enum-known-x c = search needs
+
+slice-aggregate-put-told : tie.Need-slice-aggregate-put-told
+slice-aggregate-put-told c = search needs
+
+put-told-requires : tie.Need-put-told-requires
+put-told-requires c κs =
+    let a = c .before .before .before .before .before .before .before .before .before .before .before .before .before .before .before .args in
+    count-few (now (a .book)) (now (a .sheet)) 4096 (lit≤ tt) _ _ _ _ (rw (c .before .before .before .x .given .1) at (c .before .before .before .before .before .before .before .before .book-result .ensures))
+
+returns : tie.Need-returns
+returns c = search needs
 
 same-length : tie.Need-same-length
 same-length c = search needs
 
-returns : tie.Need-returns
-returns c = c .before .before .before .before .before .put-book-in .ensures
+returns-2 : tie.Need-returns-2
+returns-2 c =
+    let a = c .before .before .before .before .before .before .before .before .before .before .before .before .before .before .before .before .before .before .args in
+    rw (told-longer (now (a .book)) (now (a .sheet)) 4096 (lit≤ tt) _ _ _ _ (rw (c .before .before .before .before .before .before .x .given .1) at (c .before .before .before .before .before .before .before .before .before .before .before .book-result .ensures))) (c .before .before .put-told .ensures)
 
 pub put-short-spec : {M : Type 1} → statement M
 put-short-spec =
     tie.close
     (tie.spec
-    slice-aggregate-put-book-in
-    slice-aggregate-put-book-in-2
-    slice-aggregate-put-book-in-3
-    put-book-in-requires
+    slice-aggregate-book-result
+    slice-aggregate-book-result-2
+    slice-aggregate-book-result-3
+    book-result-requires
+    enum-told
+    enum-known-x
+    slice-aggregate-put-told
+    put-told-requires
+    returns
     same-length
-    returns)
+    returns-2)

@@ -1,4 +1,4 @@
--- `reply::text::put_kinds`: the lines still to be written, put behind those that are, are the whole.
+-- `reply::text::put_kinds`: the lines still to be written, put after those that are, are the whole.
 use Prim.Native.Nat.{ℕ, _+_, _-_, _*_, _≤_}
 use mathlib.Core.Path.{_≡_, refl, sym, ap, _∙_}
 use native.Mathlib.Nat.{add-zero, add-assoc}

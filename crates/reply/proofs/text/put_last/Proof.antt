@@ -1,4 +1,4 @@
--- `reply::text::put_last`: word, name and number, one behind the other.
+-- `reply::text::put_last`: word, name and number, one after the other.
 use Prim.Native.Nat.{_+_}
 use mathlib.Core.List.{_++_}
 use native.Mathlib.Omega.{arith}

@@ -1,22 +1,19 @@
--- `reply::text::put_recovered`: five lines, one behind the other.
+-- `reply::text::put_recovered`: five lines, one after the other.
 use Prim.Native.Nat.{_+_}
 use mathlib.Core.Path.{_∙_}
 use mathlib.Core.List.{_++_}
 use native.Mathlib.Omega.{arith}
-use borrow.Author.Needs.{needs}
 use denote.Ref.{now}
 use Rattle.checkpoint.specs.Checkpoint.{ascii}
 use Rattle.lines.specs.Lines.{line}
-use Rattle.lines.proofs.Behind.{wrote-behind}
 use Rattle.reply.specs.Text.{verdictLine, actionLine, lastLine, recoveredLines}
+use Rattle.reply.proofs.Room.{wrote-next}
+use borrow.Author.Needs.{needs}
 use Rattle.reply.proofs.text.put_recovered.Statement.{statement}
 use Rattle.reply.proofs.text.put_recovered.Tie as tie
 
 put-verdict-requires : tie.Need-put-verdict-requires
 put-verdict-requires c κs = search needs
-
-add-put-action : tie.Need-add-put-action
-add-put-action c = search needs
 
 put-action-requires : tie.Need-put-action-requires
 put-action-requires c κs = search needs
@@ -24,17 +21,11 @@ put-action-requires c κs = search needs
 add-b : tie.Need-add-b
 add-b c = search needs
 
-add-put-last : tie.Need-add-put-last
-add-put-last c = search needs
-
 put-last-requires : tie.Need-put-last-requires
 put-last-requires c κs = search needs
 
 add-c : tie.Need-add-c
 add-c c = search needs
-
-add-put-line : tie.Need-add-put-line
-add-put-line c = search needs
 
 slice-aggregate-put-line : tie.Need-slice-aggregate-put-line
 slice-aggregate-put-line c = search needs
@@ -48,9 +39,6 @@ put-line-requires c κs = search needs
 add-e : tie.Need-add-e
 add-e c = search needs
 
-add-put-line-2 : tie.Need-add-put-line-2
-add-put-line-2 c = omega (arith, c .before .before .before .before .before .before .before .before .before .before .before .before .before .before .before .before .before .before .before .before .before .pre, c .before .before .before .before .before .before .before .before .before .before .before .before .before .before .before .before .before .put-verdict .ensures, c .before .before .before .before .before .before .before .before .before .before .before .before .before .put-action .ensures, c .before .before .before .before .before .before .before .before .before .put-last .ensures, c .before .before .before .put-line .ensures)
-
 slice-aggregate-put-line-2 : tie.Need-slice-aggregate-put-line-2
 slice-aggregate-put-line-2 c = search needs
 
@@ -58,10 +46,10 @@ cast-put-line-2 : tie.Need-cast-put-line-2
 cast-put-line-2 c = search needs
 
 put-line-requires-2 : tie.Need-put-line-requires-2
-put-line-requires-2 c κs = omega (arith, c .before .before .before .before .before .before .before .before .before .before .before .before .before .before .before .before .before .before .before .before .before .before .before .pre, c .before .before .before .before .before .before .before .before .before .before .before .before .before .before .before .before .before .before .before .put-verdict .ensures, c .before .before .before .before .before .before .before .before .before .before .before .before .before .before .before .put-action .ensures, c .before .before .before .before .before .before .before .before .before .before .before .put-last .ensures, c .before .before .before .before .before .put-line .ensures)
+put-line-requires-2 c κs = omega (arith, c .before .before .before .before .before .before .before .before .before .before .before .before .before .before .before .before .before .before .before .put-verdict .ensures, c .before .before .before .before .before .before .before .before .before .before .before .before .before .before .before .put-action .ensures, c .before .before .before .before .before .before .before .before .before .before .before .put-last .ensures, c .before .before .before .before .before .put-line .ensures)
 
 add-result : tie.Need-add-result
-add-result c = omega (arith, c .before .before .before .before .before .before .before .before .before .before .before .before .before .before .before .before .before .before .before .before .before .before .before .before .before .before .pre, c .before .before .before .before .before .before .before .before .before .before .before .before .before .before .before .before .before .before .before .before .before .before .put-verdict .ensures, c .before .before .before .before .before .before .before .before .before .before .before .before .before .before .before .before .before .before .put-action .ensures, c .before .before .before .before .before .before .before .before .before .before .before .before .before .before .put-last .ensures, c .before .before .before .before .before .before .before .before .put-line .ensures, c .before .before .put-line2 .ensures)
+add-result c = omega (arith, c .before .before .before .before .before .before .before .before .before .before .before .before .before .before .before .before .before .before .before .before .before .before .put-verdict .ensures, c .before .before .before .before .before .before .before .before .before .before .before .before .before .before .before .before .before .before .put-action .ensures, c .before .before .before .before .before .before .before .before .before .before .before .before .before .before .put-last .ensures, c .before .before .before .before .before .before .before .before .put-line .ensures, c .before .before .put-line2 .ensures)
 
 same-length : tie.Need-same-length
 same-length c = c .before .before .put-line2 .kept .0 ∙ c .before .before .before .before .before .before .before .before .put-line .kept .0 ∙ c .before .before .before .before .before .before .before .before .before .before .before .before .before .before .put-last .kept .0 ∙ c .before .before .before .before .before .before .before .before .before .before .before .before .before .before .before .before .before .before .put-action .kept .0 ∙ c .before .before .before .before .before .before .before .before .before .before .before .before .before .before .before .before .before .before .before .before .before .before .put-verdict .kept .0
@@ -84,29 +72,25 @@ returns c =
     let n2 = v .result + act .result in
     let n3 = n2 + l .result in
     let n4 = n3 + o .result in
-    let w2 = wrote-behind d (a .at) t1 (v .last .0) (v .result) (actionLine (r .action)) (act .last .0) (act .result) (v .ensures .0, v .ensures .1) (act .ensures .0, act .ensures .1) in
-    let w3 = wrote-behind d (a .at) t2 (act .last .0) n2 (lastLine (r .marks .checkpoint) (r .marks .number)) (l .last .0) (l .result) w2 (l .ensures .0, l .ensures .1) in
-    let w4 = wrote-behind d (a .at) t3 (l .last .0) n3 (line (ascii "orders ") (r .orders)) (o .last .0) (o .result) w3 (o .ensures .0, o .ensures .1) in
-    let w5 = wrote-behind d (a .at) t4 (o .last .0) n4 (line (ascii "positions ") (r .positions)) (p .last .0) (p .result) w4 (p .ensures .0, p .ensures .1) in
-    (w5 .0, w5 .1, omega (arith, v .ensures, act .ensures, l .ensures, o .ensures, p .ensures))
+    let w2 = wrote-next d t1 (v .last .0) (v .result) (actionLine (r .action)) (act .last .0) (act .result) (v .ensures .0) (act .ensures .0, act .ensures .1) in
+    let w3 = wrote-next d t2 (act .last .0) n2 (lastLine (r .marks .checkpoint) (r .marks .number)) (l .last .0) (l .result) w2 (l .ensures .0, l .ensures .1) in
+    let w4 = wrote-next d t3 (l .last .0) n3 (line (ascii "orders ") (r .orders)) (o .last .0) (o .result) w3 (o .ensures .0, o .ensures .1) in
+    let w5 = wrote-next d t4 (o .last .0) n4 (line (ascii "positions ") (r .positions)) (p .last .0) (p .result) w4 (p .ensures .0, p .ensures .1) in
+    (w5, omega (arith, v .ensures, act .ensures, l .ensures, o .ensures, p .ensures))
 
 pub put-recovered-spec : {M : Type 1} → statement M
 put-recovered-spec =
     tie.close
     (tie.spec
     put-verdict-requires
-    add-put-action
     put-action-requires
     add-b
-    add-put-last
     put-last-requires
     add-c
-    add-put-line
     slice-aggregate-put-line
     cast-put-line
     put-line-requires
     add-e
-    add-put-line-2
     slice-aggregate-put-line-2
     cast-put-line-2
     put-line-requires-2

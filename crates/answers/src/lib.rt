@@ -19,6 +19,49 @@ pub struct Numbers {
     pub b: u64,
 }
 
+// Refused answers, by the names of their refusals.
+pub const OVERSIZE: Numbers = Numbers {
+    refusal: 1,
+    a: 0,
+    b: 0,
+};
+
+pub const BROKEN: Numbers = Numbers {
+    refusal: 2,
+    a: 0,
+    b: 0,
+};
+
+pub const NO_ROOM: Numbers = Numbers {
+    refusal: 3,
+    a: 0,
+    b: 0,
+};
+
+pub const NO_NUMBERS: Numbers = Numbers {
+    refusal: 8,
+    a: 0,
+    b: 0,
+};
+
+pub const BAD_WEIGHT: Numbers = Numbers {
+    refusal: 11,
+    a: 0,
+    b: 0,
+};
+
+pub const OUT_OF_RANGE: Numbers = Numbers {
+    refusal: 12,
+    a: 0,
+    b: 0,
+};
+
+pub const TOO_MANY: Numbers = Numbers {
+    refusal: 13,
+    a: 0,
+    b: 0,
+};
+
 pub fn layout_number(r: Layout) -> u32
     ensures { λ n. ⌜ n ≡ layoutNumber r ⌝ }
 {

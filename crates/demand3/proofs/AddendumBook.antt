@@ -23,15 +23,18 @@ use Rattle.effects.specs.Event.{Event, eventOf, eventsOf}
 use Rattle.join.specs.Join.{tooLarge}
 use Rattle.intents.specs.Intents.{entryName, reasonText, entryText, entryBytes, entryTable, entryTexts, addendum}
 use Rattle.book.specs.Time.{timeLayout}
+use Rattle.intents.proofs.Entries.{entry-size}
+use Rattle.intents.proofs.Walks.{table-size}
+use Rattle.intents.proofs.Addenda.{addendum-size}
 use Rattle.intents.specs.declared.Chosen.{Chosen}
 use Rattle.intents.specs.declared.Chosen.the-variants as C
 use Rattle.demand3.proofs.Entries.{Texted, entryEvent, entryEvents}
-use Rattle.demand3.proofs.BookOf.{small, Reads, length-book, book-reads, book-sound}
+use Rattle.join.proofs.BookOf.{within, ReadsAs, book-reads, book-sound}
 use Rattle.symbol.proofs.Text.{bytes-take}
 use Rattle.sound_state.proofs.Tables.{bytes-if}
-use Rattle.demand3.proofs.MovedTables.{bytes-append, bytes-number, all, every-all}
+use Rattle.join.proofs.MovedTables.{bytes-append, bytes-number, all, every-all}
 use Rattle.demand3.proofs.JoinLayout.{bytes-book}
-use Rattle.demand3.proofs.EntryBytes.{IdFits, entry-read, entry-passes, length-entry, bytes-entry}
+use Rattle.demand3.proofs.EntryBytes.{IdFits, entry-read, entry-passes, bytes-entry}
 
 -- ---- the table of the entries
 unfoldable eachEntry : {A : Type 0} → Chosen → (ℕ → ℕ → Symbol → A) → ℕ → ℕ → List Symbol → List A
@@ -50,13 +53,6 @@ each-true c number first [] = refl
 each-true c number first (y ∷ ys) = each-true c (suc number) (first + length (entryText c y)) ys
 
 module _ (c : Chosen) (time : ℤ) where
-  pub length-table : (number first : ℕ) (ys : List Symbol) → length (entryTable c time number first ys) ≡ 240 * length ys
-  unfolding entryTable
-  length-table number first [] = refl
-  length-table number first (y ∷ ys) =
-      length-append (entryBytes c time number first y) (entryTable c time (suc number) (first + length (entryText c y)) ys)
-      ∙ omega (arith, length-entry c time number first y, length-table (suc number) (first + length (entryText c y)) ys)
-
   pub bytes-table : (number first : ℕ) (ys : List Symbol) → Bytes (entryTable c time number first ys)
   unfolding entryTable
   bytes-table number first [] = Wr.none
@@ -79,7 +75,7 @@ module _ (c : Chosen) (time : ℤ) where
         rw (
           append-assoc (entryBytes c time number first y) rest t,
           one number y p (entryTexts c ys) (rest ++ t) texted split n,
-          drop-at (entryBytes c time number first y) (rest ++ t) 240 (length-entry c time number first y),
+          drop-at (entryBytes c time number first y) (rest ++ t) 240 (entry-size c time number first y),
           ← length-append p (entryText c y),
         )
         (ap (λ (es : List A). g number first y ∷ es) (table-read (suc number) ys (p ++ entryText c y) t each split' next))
@@ -105,11 +101,6 @@ bytes-texts c (y ∷ ys) =
 
 -- ---- the addendum
 module _ (c : Chosen) (time : ℤ) (last : ℕ) (ys : List Symbol) where
-  pub length-addendum : length (addendum c time last ys) ≡ 24 + 240 * length ys + length (entryTexts c ys)
-  unfolding addendum
-  length-addendum =
-      length-book (length ys) 0 (entryTable c time (suc last) 0 ys) [] (entryTexts c ys) (length-table c time (suc last) 0 ys) refl ∙ omega arith
-
   pub bytes-addendum : Bytes (addendum c time last ys)
   unfolding addendum
   bytes-addendum =
@@ -117,12 +108,12 @@ module _ (c : Chosen) (time : ℤ) (last : ℕ) (ys : List Symbol) where
 
   module _ (fits : tooLarge (length (addendum c time last ys)) (length ys) 0 ≡ false) where
     below : 24 + 240 * length ys + 64 * 0 + length (entryTexts c ys) < 2 ^ 32
-    below = omega (arith, small (length (addendum c time last ys)) (length ys) 0 fits .bytes, length-addendum)
+    below = omega (arith, within (length (addendum c time last ys)) (length ys) 0 fits .bytes, addendum-size c time last ys)
 
-    pub addendum-reads : Reads (length ys) 0 (entryTable c time (suc last) 0 ys) [] (entryTexts c ys) (addendum c time last ys)
+    pub addendum-reads : ReadsAs (length ys) 0 (entryTable c time (suc last) 0 ys) [] (entryTexts c ys) (addendum c time last ys)
     unfolding addendum
     addendum-reads =
-        book-reads (length ys) 0 (entryTable c time (suc last) 0 ys) [] (entryTexts c ys) (length-table c time (suc last) 0 ys) refl below
+        book-reads (length ys) 0 (entryTable c time (suc last) 0 ys) [] (entryTexts c ys) (table-size c time (suc last) 0 ys) refl below
 
     module _ (id : IdFits c) (valid : timeLayout time ≡ L.Sound) (each : Each Texted ys) (room : last + length ys < 2 ^ 64) where
       text-small : length (entryTexts c ys) < 2 ^ 32
@@ -145,8 +136,8 @@ module _ (c : Chosen) (time : ℤ) (last : ℕ) (ys : List Symbol) where
       unfolding addendum every
       addendum-sound =
           let e : 24 + 240 * length ys + length (entryTexts c ys) ≡ 24 + 240 * length ys + 64 * 0 + length (entryTexts c ys) = omega arith in
-          book-sound (length ys) 0 (entryTable c time (suc last) 0 ys) [] (entryTexts c ys) (length-table c time (suc last) 0 ys) refl below
-          (ap (λ (m : ℕ). tooLarge m (length ys) 0) (sym (length-addendum ∙ e)) ∙ fits)
+          book-sound (length ys) 0 (entryTable c time (suc last) 0 ys) [] (entryTexts c ys) (table-size c time (suc last) 0 ys) refl below
+          (ap (λ (m : ℕ). tooLarge m (length ys) 0) (sym (addendum-size c time last ys ∙ e)) ∙ fits)
           entries-pass
           refl
 

@@ -30,15 +30,14 @@ use Rattle.book.specs.Time.{timeLayout}
 use Rattle.recovery.specs.declared.recover.Recovered.{Recovered}
 use Rattle.recovery.specs.declared.recover.Recovery.{Recovery}
 use Rattle.recovery.specs.declared.recover.Recovery.the-variants as Rec
-use Rattle.intents.specs.Intents.{reached, unreached, chosen, addendum, ordersMost, numbersLeft, reconcilesIf, reconciling, addendumBytesIf, addendumOut}
-use Rattle.intents.specs.Intents as Lent
+use Rattle.intents.specs.Intents.{reached, unreached, chosen, addendum, lentAddendum, ordersMost, numbersLeft, reconcilesIf, reconciling, addendumBytesIf, addendumOut}
 use Rattle.intents.specs.declared.Reconciled.{Reconciled}
 use Rattle.intents.specs.declared.Reconciling.{Reconciling}
 use Rattle.intents.specs.declared.Reconciling.the-variants as Ask
 use Rattle.join.specs.Join.{joinedLength, tooLarge, joinsIf, joining}
 use Rattle.join.specs.declared.Joining.{Joining}
 use Rattle.join.specs.declared.Joining.the-variants as Joins
-use Rattle.rounds.specs.Rounds.{Round, Outcome, afterJoin, joinRound, lentOrders, lentAddendum, afterReconciling, reconcileRound, afterRecovery, roundOf, done}
+use Rattle.rounds.specs.Rounds.{Round, Outcome, afterJoin, joinRound, lentOrders, writtenAddendum, afterReconciling, reconcileRound, afterRecovery, roundOf, done}
 use Rattle.rounds.specs.declared.Rounded.the-variants.{NoRoom}
 use Rattle.rounds.proofs.Answers.{by-bool, take-padded, done-parts, reconciles-done, never-broken, Joinable, Third, third-passed, joining-is}
 use Rattle.demand3.specs.Demand3.{recovered, openIntents, reachedBy, addendumOf, passes, Room}
@@ -127,14 +126,14 @@ answerBy r len l os k a =
 
 answer-by : (r : Round) (m : Marks) (d : List ℕ)
     → reconciling m d (r .sheet) (r .queries) (r .time) (r .addendum)
-    ≡ answerBy r (length d) (ordersLayout d) (ordersIn d) (m .number) (Lent.lentAddendum m d (r .sheet) (r .queries) (r .time))
+    ≡ answerBy r (length d) (ordersLayout d) (ordersIn d) (m .number) (lentAddendum m d (r .sheet) (r .queries) (r .time))
 unfolding reconciling answerBy
 answer-by r m d = refl
 
 addendum-by : (r : Round) (m : Marks) (d : List ℕ) (k : ℕ) (os : List Order) → m .number ≡ k → ordersIn d ≡ os
-    → Lent.lentAddendum m d (r .sheet) (r .queries) (r .time)
+    → lentAddendum m d (r .sheet) (r .queries) (r .time)
     ≡ addendum (chosen (sheetOrders (r .sheet))) (r .time) k (reached (ordersFailed (r .sheet)) os (r .queries))
-unfolding Lent.lentAddendum
+unfolding lentAddendum
 addendum-by r m d k os p q =
     ap (λ (x : List Order). addendum (chosen (sheetOrders (r .sheet))) (r .time) (m .number) (reached (ordersFailed (r .sheet)) x (r .queries))) q
     ∙ ap (λ (x : ℕ). addendum (chosen (sheetOrders (r .sheet))) (r .time) x (reached (ordersFailed (r .sheet)) os (r .queries))) p
@@ -209,7 +208,7 @@ module _ (r : Round) (log : List ℕ) (b : Bytes log) (s : bookLayout log ≡ L.
   length-back = ap length (lent-is r log s f) ∙ length-encoded orderBytes 64 order-size (recovered log .orders)
 
   addendum-back :
-      Lent.lentAddendum (stateOf log (r .now) .marks) (lentOrders r log (recoveredAt log (r .now))) (r .sheet) (r .queries) (r .time) ≡ addendumOf r log
+      lentAddendum (stateOf log (r .now) .marks) (lentOrders r log (recoveredAt log (r .now))) (r .sheet) (r .queries) (r .time) ≡ addendumOf r log
   addendum-back =
       addendum-by r (stateOf log (r .now) .marks) (lentOrders r log (recoveredAt log (r .now))) (recovered log .marks .number) (recovered log .orders)
       (number-apart log (r .now)) orders-back
@@ -218,7 +217,7 @@ module _ (r : Round) (log : List ℕ) (b : Bytes log) (s : bookLayout log ≡ L.
   asked-is =
       let d = lentOrders r log (recoveredAt log (r .now)) in
       let m = stateOf log (r .now) .marks in
-      let a = Lent.lentAddendum m d (r .sheet) (r .queries) (r .time) in
+      let a = lentAddendum m d (r .sheet) (r .queries) (r .time) in
       answer-by r m d ∙ ap (λ (x : ℕ). answerBy r x (ordersLayout d) (ordersIn d) (m .number) a) length-back
       ∙ ap (λ (x : Layout). answerBy r (64 * length (recovered log .orders)) x (ordersIn d) (m .number) a) layout-back
       ∙ ap (λ (x : List Order). answerBy r (64 * length (recovered log .orders)) L.Sound x (m .number) a) orders-back
@@ -261,13 +260,13 @@ module _ (r : Round) (log : List ℕ) (b : Bytes log) (s : bookLayout log ≡ L.
   unfolding reconcileRound
   second-full q h = ap (λ (v : Reconciling). afterReconciling r log (recoveredAt log (r .now)) v .answer) (asked-is ∙ asked-full q h)
 
-  lent-addendum : Second r log → lentAddendum r log (recoveredAt log (r .now)) reconciledBy ≡ addendumOf r log
+  lent-addendum : Second r log → writtenAddendum r log (recoveredAt log (r .now)) reconciledBy ≡ addendumOf r log
   unfolding addendumOut
   lent-addendum q =
       let d = lentOrders r log (recoveredAt log (r .now)) in
       let m = stateOf log (r .now) .marks in
       let a = addendumOf r log in
-      ap (λ (v : Reconciling). take (length a) (addendumBytesIf v (r .addendum) (Lent.lentAddendum m d (r .sheet) (r .queries) (r .time)))) (asked-is ∙ asked-done q)
+      ap (λ (v : Reconciling). take (length a) (addendumBytesIf v (r .addendum) (lentAddendum m d (r .sheet) (r .queries) (r .time)))) (asked-is ∙ asked-done q)
       ∙ ap (λ (x : List ℕ). take (length a) (padded (r .addendum) x)) addendum-back ∙ take-padded (r .addendum) a
 
   pub second-is : Second r log → reconcileRound r log (recoveredAt log (r .now)) ≡ joinRound r log (addendumOf r log)

@@ -4,26 +4,22 @@ use Prim.Native.Nat.{ℕ, suc, _+_, _-_}
 use mathlib.Core.Path.{_≡_, refl, ap, _∙_}
 use mathlib.Core.Bool.{true}
 use mathlib.Core.List.{List, [], _∷_}
-use mathlib.Core.Option.{Option, none, some}
+use mathlib.Core.Option.{none, some}
 use lib.IntN.{ℤ}
 use lib.ListN.{length, take, replicate}
 use lib.Seq.{take-at}
-use mir.Syntax.{w64}
-use mir.Val.{toZ}
 use Rattle.wire.specs.Le.{le}
 use Rattle.wire.specs.Table.{padded}
 use Rattle.wire.proofs.Written.{Bytes}
 use Rattle.symbol.specs.Symbol.{symbolWidth, parses, symbolOf}
 use Rattle.symbol.specs.declared.Symbol.{Symbol}
 use Rattle.symbol.proofs.Text.{text-bytes, parses-most}
-use Rattle.cell.specs.declared.TextRef.{TextRef}
 use Rattle.cell.specs.declared.AsStr.{AsStr}
 use Rattle.cell.specs.declared.AsStr.the-variants as Str
 use Rattle.cell.specs.declared.AsI64.{AsI64}
 use Rattle.cell.specs.declared.AsI64.the-variants as I64
 use Rattle.cell.specs.declared.AsF64.the-variants as F64
 use Rattle.cell.specs.declared.AsBool.the-variants as B
-use Rattle.cell.specs.declared.Cell.{Cell}
 use Rattle.cell.specs.Cell.{cellOf, asI64}
 use Rattle.book.specs.declared.event.SequenceNumber.the-variants as N
 use Rattle.checkpoint.specs.declared.Checkpoint.{Checkpoint}

@@ -39,8 +39,8 @@ use Rattle.intents.specs.declared.Chosen.{Chosen}
 use Rattle.intents.specs.declared.Chosen.the-variants as C
 use Rattle.demand3.proofs.Entries.{Texted, entryCheckpoint, entryId, entryReason, entryEvent}
 use Rattle.sound_state.proofs.Tables.{and-both}
-use Rattle.demand3.proofs.MovedTables.{bytes-append, bytes-number}
-use Rattle.demand3.proofs.MovedEvents.{passes}
+use Rattle.join.proofs.MovedTables.{bytes-append, bytes-number}
+use Rattle.join.proofs.MovedEvents.{passes}
 
 -- ---- a cell that was written
 module _ (k p : ℕ) (t : List ℕ) (hk : k < 2 ^ 64) (hp : p < 2 ^ 64) where
@@ -109,10 +109,6 @@ unfolding entryBytes eventWith
 entry-plain c time number first y = rw (id-plain c, reason-plain c (first + length (entryName c) + y .len))
 
 module _ (first len number time k0 p0 k5 p5 k6 p6 : ℕ) where
-  length-with : length (eventWith first len number time k0 p0 k5 p5 k6 p6) ≡ 240
-  unfolding eventWith bytesOf
-  length-with = refl
-
   module _ (t : List ℕ) (f : first < 2 ^ 32) (l : len < 2 ^ 32) (n : number < 2 ^ 64) (m : time < 2 ^ 64)
       (s0 : p0 < 2 ^ 64) (s5 : p5 < 2 ^ 64) (s6 : p6 < 2 ^ 64)
       (h0 : k0 < 2 ^ 64) (h5 : k5 < 2 ^ 64) (h6 : k6 < 2 ^ 64) where
@@ -415,13 +411,7 @@ module _ (c : Chosen) (time : ℤ) (number : ℕ) (y : Symbol) (texted : Texted 
   pub entry-passes : (rows : ℕ) → eventOk rows (length text) (entryBytes c time number (length p) y ++ t) ≡ true
   entry-passes rows = with-pass (text-in c y texted p q text split) (time-bits time valid .most) rows
 
--- ---- the size and the bytes of an entry
-pub length-entry : (c : Chosen) (time : ℤ) (number first : ℕ) (y : Symbol) → length (entryBytes c time number first y) ≡ 240
-length-entry c time number first y =
-    ap length (entry-plain c time number first y)
-    ∙ length-with first (length (entryName c)) number (ofZ w64 time) 4 (first + length (entryName c) + 2 ^ 32 * y .len) (idKind c) (idPayload c)
-    (reasonKind c) (reasonPayload c (first + length (entryName c) + y .len))
-
+-- ---- the bytes of an entry
 bytes-with : (first len number time k0 p0 k5 p5 k6 p6 : ℕ) → Bytes (eventWith first len number time k0 p0 k5 p5 k6 p6)
 unfolding eventWith
 bytes-with first len number time k0 p0 k5 p5 k6 p6 = search (bytes-append, bytes-number) depth 60 fits 3000

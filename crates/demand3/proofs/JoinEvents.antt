@@ -32,13 +32,13 @@ use Rattle.effects.specs.Event.{Event, Row, bytesOfText, rowOf, rowsOf, eventOf
 use Rattle.book.proofs.Sound.{ArrayIn, cell-array}
 use Rattle.join.specs.Join.{each, movedCell, movedRow, movedEvent, joined, joinedLength, tooLarge}
 use Rattle.join.proofs.Moves.{cell-size, row-size, event-size}
-use Rattle.demand3.proofs.BookOf.{small}
+use Rattle.join.proofs.BookOf.{within}
 use Rattle.sound_state.proofs.Tables.{every-from, every-take}
 use Rattle.sound_state.proofs.Tabled.{laid, eventBytes, rowBytes, row-cell-at, event-cell-at}
-use Rattle.demand3.proofs.MovedTables.{records-near, records-take, records-same, records-moved, drop-each, each-at}
-use Rattle.demand3.proofs.MovedCells.{cell-near, movedValue, cell-moved}
-use Rattle.demand3.proofs.MovedEvents.{passed, first-moved, len-moved, mark-moved, number-moved, time-moved, cell-at}
-use Rattle.demand3.proofs.JoinLayout.{addedEvents, addedRows, joined-count, joined-text, joined-rows, joined-events}
+use Rattle.join.proofs.MovedTables.{records-near, records-take, records-same, records-moved, drop-each, each-at}
+use Rattle.join.proofs.MovedCells.{cell-near, movedValue, cell-moved}
+use Rattle.join.proofs.MovedEvents.{passed, first-moved, len-moved, mark-moved, number-moved, time-moved, cell-at}
+use Rattle.demand3.proofs.JoinLayout.{addedEvents, addedRows, joined-count, joined-row-count, joined-text, joined-rows, joined-events, joined-sound, bytes-joined}
 
 -- ---- text references moved by d bytes; names, symbols and lists are held by value already
 abbrev pub movedStr : ℕ → AsStr → AsStr
@@ -71,7 +71,7 @@ movedRefs d e =
       orders = movedListRefs d (e .orders);
     }
 
--- ---- a text in a text that has grown, behind it and before it
+-- ---- a text in a text that has grown, after it and before it
 pub text-kept : (t u : List ℕ) (r : TextRef) → r .first + r .len ≤ length t → textIn (t ++ u) r ≡ textIn t r
 text-kept t u r h =
     let a : r .first ≤ length t = omega arith in
@@ -286,7 +286,15 @@ take-map h zero xs = refl
 take-map h (suc k) [] = refl
 take-map {B = B} h (suc k) (x ∷ xs) = ap (λ (r : List B). h x ∷ r) (take-map h k xs)
 
--- ---- the joined book: its events are A's and the first k of B's, whose text references are moved by A's text length
+-- ---- the joined book, where neither book is refused and the join is not too large
+pub record JoinedBook (a b : List ℕ) (k : ℕ) : Type 0 where
+  pub layout : bookLayout (joined a b k) ≡ L.Sound
+  pub count : eventCount (joined a b k) ≡ eventCount a + k
+  pub rows : rowCount (joined a b k) ≡ rowCount a + rowCount b
+  pub text : textOf (joined a b k) ≡ textOf a ++ textOf b
+  pub events : eventsOf (joined a b k) ≡ eventsOf a ++ take k (map (movedRefs (textLength a)) (eventsOf b))
+  pub bytes : Bytes (joined a b k)
+
 module _ (a b : List ℕ) (k : ℕ) (sa : bookLayout a ≡ L.Sound) (sb : bookLayout b ≡ L.Sound) (bytes : Bytes b) (most : k ≤ eventCount b)
     (fits : tooLarge (joinedLength a b k) (eventCount a + k) (rowCount a + rowCount b) ≡ false) where
   events-kept : (x : List ℕ) → records (eventOf (rowBytes a ++ x) (textOf a ++ textOf b)) 240 (eventCount a) (eventBytes a) ≡ eventsOf a
@@ -309,7 +317,7 @@ module _ (a b : List ℕ) (k : ℕ) (sa : bookLayout a ≡ L.Sound) (sb : bookLa
   events-moved x rest =
       let la = laid a sa in
       let lb = laid b sb in
-      let z = small (joinedLength a b k) (eventCount a + k) (rowCount a + rowCount b) fits .bytes in
+      let z = within (joinedLength a b k) (eventCount a + k) (rowCount a + rowCount b) fits .bytes in
       let n = rowCount a in
       let m = rowCount b in
       let d = textLength a in
@@ -325,7 +333,7 @@ module _ (a b : List ℕ) (k : ℕ) (sa : bookLayout a ≡ L.Sound) (sb : bookLa
       ∙ ap (map (movedRefs d)) (records-take (eventOf (rowsIn b) (textOf b)) 240 k (eventCount b) (eventsIn b) most)
       ∙ take-map (movedRefs d) k (eventsOf b)
 
-  pub events-joined : eventsOf (joined a b k) ≡ eventsOf a ++ take k (map (movedRefs (textLength a)) (eventsOf b))
+  events-joined : eventsOf (joined a b k) ≡ eventsOf a ++ take k (map (movedRefs (textLength a)) (eventsOf b))
   events-joined =
       let la = laid a sa in
       let lb = laid b sb in
@@ -337,3 +345,18 @@ module _ (a b : List ℕ) (k : ℕ) (sa : bookLayout a ≡ L.Sound) (sb : bookLa
       (records-append g 240 (event-of-near rows text) (eventCount a) k (eventBytes a) (addedEvents a b k ++ rest) (la .eventSize)
       ∙ ap (λ (es : List Event). es ++ records g 240 k (addedEvents a b k ++ rest)) (events-kept (addedRows a b ++ text))
       ∙ ap (λ (es : List Event). eventsOf a ++ es) (events-moved text rest))
+
+  -- The joined book is sound. Its events are A's, as they were, and the first k of B's, whose text references are moved by A's text length;
+  -- its text is A's and B's after it.
+  pub joined-book : Bytes a → JoinedBook a b k
+  joined-book p =
+      let la = laid a sa in
+      let lb = laid b sb in
+      record {
+        layout = joined-sound a b k la lb fits bytes most;
+        count = joined-count a b k la lb fits;
+        rows = joined-row-count a b k la lb fits;
+        text = joined-text a b k la lb fits;
+        events = events-joined;
+        bytes = bytes-joined a b k p bytes;
+      }

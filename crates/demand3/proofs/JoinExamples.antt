@@ -5,15 +5,11 @@ use mathlib.Core.Path.{_≡_, refl}
 use mathlib.Core.List.{List, [], _∷_, _++_, map}
 use lib.IntN.{pos}
 use lib.ListN.{length}
-use Rattle.wire.specs.Le.{le, bytesOf, sameBytes}
-use Rattle.wire.specs.Table.{records, encoded, every}
 use Rattle.wire.specs.declared.layout.Layout.the-variants as L
 use Rattle.symbol.specs.declared.Symbol.{Symbol}
-use Rattle.cell.specs.Cell.{cellBy, cellOf}
-use Rattle.book.specs.Layout.{bookLayout, payloadOk, cellOk, rowCellOk, rowOk, windowOk, headOk, eventHeadOk, eventOk, offsetsOk, tablesOk, partsOk}
+use Rattle.book.specs.Layout.{bookLayout}
 use Rattle.book.specs.Event.{textOf}
-use Rattle.checkpoint.specs.Checkpoint.{eventName, checkpoints, namedAmong, named}
-use Rattle.audit.proofs.BookBytes.{part, numberedWith, eventTable, bookBytes}
+use Rattle.samples.specs.BookBytes.{part, numberedWith, bookBytes, bookOpened}
 use Rattle.effects.specs.Event.{eventsOf}
 use Rattle.join.specs.Join.{bookOf, each, movedCell, movedRow, movedEvent, joined}
 use Rattle.intents.specs.Intents.{entryBytes, entryTable, entryText, entryTexts, addendum}
@@ -36,28 +32,33 @@ y = record { word = 65 + 256 * 66; len = 2 }
 entry : List ℕ
 entry = addendum C.Nothing (pos 7) 2 (y ∷ [])
 
+-- all that the examples go through
+unfoldable opened : Unit {0}
+unfolding bookOpened log entry y addendum bookOf entryTable entryTexts entryBytes entryText joined each movedCell movedRow movedEvent entryEvents
+opened = tt
+
 entry-sound : bookLayout entry ≡ L.Sound
-unfolding entry y addendum bookOf entryTable entryTexts entryBytes entryText bytesOf le eventName bookLayout partsOk tablesOk offsetsOk every eventOk eventHeadOk headOk windowOk cellOk payloadOk rowOk rowCellOk
+unfolding opened
 entry-sound = refl
 
--- joined whole, and cut to none: the log's events, the entry behind them, and both texts
+-- joined whole, and cut to none: the log's events, the entry after them, and both texts
 whole-events : eventsOf (joined log entry 1) ≡ eventsOf log ++ entryEvents C.Nothing (pos 7) 3 (length (textOf log)) (y ∷ [])
-unfolding log entry y bookBytes eventTable addendum bookOf entryTable entryTexts entryBytes entryText bytesOf le encoded records cellOf cellBy named namedAmong checkpoints eventName sameBytes joined each movedCell movedRow movedEvent entryEvents
+unfolding opened
 whole-events = refl
 
 whole-sound : bookLayout (joined log entry 1) ≡ L.Sound
-unfolding log entry y bookBytes eventTable encoded addendum bookOf entryTable entryTexts entryBytes entryText bytesOf le eventName bookLayout partsOk tablesOk offsetsOk every eventOk eventHeadOk headOk windowOk cellOk payloadOk rowOk rowCellOk joined each movedCell movedRow movedEvent
+unfolding opened
 whole-sound = refl
 
 cut-events : eventsOf (joined log entry 0) ≡ eventsOf log
-unfolding log entry y bookBytes eventTable addendum bookOf entryTable entryTexts entryBytes entryText bytesOf le encoded records cellOf cellBy named namedAmong checkpoints eventName sameBytes joined each movedCell movedRow movedEvent
+unfolding opened
 cut-events = refl
 
 cut-text : textOf (joined log entry 0) ≡ textOf log ++ textOf entry
-unfolding log entry y bookBytes eventTable addendum bookOf entryTable entryTexts entryBytes entryText bytesOf le encoded joined each movedCell movedRow movedEvent eventName
+unfolding opened
 cut-text = refl
 
 -- a log joined to itself: the second time its references, a row's too, stand 27 bytes on
 twice : eventsOf (joined log log 2) ≡ eventsOf log ++ map (movedRefs 27) (eventsOf log)
-unfolding log bookBytes eventTable bookOf bytesOf le encoded records cellOf cellBy named namedAmong checkpoints eventName sameBytes joined each movedCell movedRow movedEvent
+unfolding opened
 twice = refl

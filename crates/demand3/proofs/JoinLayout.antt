@@ -15,11 +15,11 @@ use Rattle.book.specs.Layout.{rowOk, eventOk, eventCount, rowCount, textLength,
 use Rattle.book.specs.Event.{eventsIn, rowsIn, textOf}
 use Rattle.join.specs.Join.{bookOf, each, movedRow, movedEvent, joined, joinedLength, tooLarge}
 use Rattle.join.proofs.Moves.{each-size, row-size, event-size}
-use Rattle.demand3.proofs.BookOf.{small, Reads, book-reads, book-sound}
+use Rattle.join.proofs.BookOf.{within, ReadsAs, book-reads, book-sound}
 use Rattle.sound_state.proofs.Tables.{every-take}
 use Rattle.sound_state.proofs.Tabled.{eventBytes, rowBytes, Laid}
-use Rattle.demand3.proofs.MovedTables.{bytes-append, bytes-number, every-near, every-append, every-more, every-moved, bytes-each}
-use Rattle.demand3.proofs.MovedEvents.{row-near, row-more, bytes-row, row-ok-moved, event-near, event-more, bytes-event, event-ok-moved}
+use Rattle.join.proofs.MovedTables.{bytes-append, bytes-number, every-near, every-append, every-more, every-moved, bytes-each}
+use Rattle.join.proofs.MovedEvents.{row-near, row-more, bytes-row, row-ok-moved, event-near, event-more, bytes-event, event-ok-moved}
 
 -- ---- the joined book's tables
 abbrev pub addedEvents : List ℕ → List ℕ → ℕ → List ℕ
@@ -44,9 +44,9 @@ module _ (a b : List ℕ) (k : ℕ) (la : Laid a) (lb : Laid b) where
 
   module _ (fits : tooLarge (joinedLength a b k) (eventCount a + k) (rowCount a + rowCount b) ≡ false) where
     below : 24 + 240 * (eventCount a + k) + 64 * (rowCount a + rowCount b) + length (textOf a ++ textOf b) < 2 ^ 32
-    below = let z = small (joinedLength a b k) (eventCount a + k) (rowCount a + rowCount b) fits in omega (arith, z .bytes, text-size)
+    below = let z = within (joinedLength a b k) (eventCount a + k) (rowCount a + rowCount b) fits in omega (arith, z .bytes, text-size)
 
-    joined-reads : Reads (eventCount a + k) (rowCount a + rowCount b) (eventBytes a ++ addedEvents a b k) (rowBytes a ++ addedRows a b)
+    joined-reads : ReadsAs (eventCount a + k) (rowCount a + rowCount b) (eventBytes a ++ addedEvents a b k) (rowBytes a ++ addedRows a b)
         (textOf a ++ textOf b) (joined a b k)
     unfolding joined
     joined-reads =

@@ -1,13 +1,8 @@
 pub mod Entries
-pub mod BookOf
-pub mod MovedTables
-pub mod MovedCells
-pub mod MovedEvents
 pub mod JoinLayout
 pub mod JoinEvents
 pub mod EntryBytes
 pub mod AddendumBook
-pub mod Joined
 pub mod JoinExamples
 pub mod Settling
 pub mod Progress

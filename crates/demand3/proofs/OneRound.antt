@@ -1,6 +1,6 @@
 -- One round: with the broker's choice, it leads the log to the next by the entries that were joined. About no function.
 -- Assumes nothing.
-use Prim.Native.Nat.{ℕ, suc, _+_, _-_, _*_, _^_, _≤_, _<_}
+use Prim.Native.Nat.{ℕ, suc, _+_, _*_, _^_, _≤_, _<_}
 use mathlib.Core.Path.{_≡_, refl, sym, ap, _∙_, subst}
 use mathlib.Core.Logic.{inr}
 use mathlib.Core.List.{List, [], _∷_, _++_}
@@ -35,7 +35,7 @@ use Rattle.sound_state.proofs.Tabled.{text-length}
 use Rattle.sound_state.proofs.GoodBook.{state-good}
 use Rattle.demand3.proofs.Stepping.{steps-orders}
 use Rattle.demand3.proofs.Calls.{Askable, Second, passed}
-use Rattle.demand3.proofs.EntriesJoined.{Entered, Joins, add-entries, add-no-rows, joins-book, joins-events, joins-text, entries-written, written-take}
+use Rattle.demand3.proofs.EntriesJoined.{Entered, EntriesJoin, add-reads, joins-book, joins-events, joins-text, entries-written, written-take}
 use Rattle.demand3.proofs.Leading.{Led, led-total, led-count, led-refl}
 
 -- ---- the addendum, with the broker's choice
@@ -84,11 +84,11 @@ module _ (broker : List BrokerOrderStatus) (small : Small (chosen broker)) (r : 
         size = subst (λ (b : List ℕ). tooLarge (length b) (length (reachedBy r x)) 0 ≡ false) (addendum-same broker r x shows) (q .size);
       }
 
-  joins : Second r x → Third r x (chosenAddendum broker r x) → Joins (chosen broker) (r .time) (recovered x .marks .number) (reachedBy r x) x (r .k)
+  joins : Second r x → Third r x (chosenAddendum broker r x) → EntriesJoin (chosen broker) (r .time) (recovered x .marks .number) (reachedBy r x) x (r .k)
   joins q t =
       let e = entered (q .askable) in
       let k = ltb-false (eventCount (chosenAddendum broker r x)) (r .k) (t .joinable .count) in
-      record { bytes = bx; sound = sx; entered = e; count = omega (arith, add-entries e); size = t .joinable .size }
+      record { bytes = bx; sound = sx; entered = e; count = omega (arith, add-reads e .count); size = t .joinable .size }
 
   -- the log that is joined
   module _ (d : NoRepeat (recovered x .orders)) (q : Second r x) (t : Third r x (chosenAddendum broker r x)) where
@@ -132,7 +132,7 @@ module _ (broker : List BrokerOrderStatus) (small : Small (chosen broker)) (r : 
           written = joined-written;
           prog = rw joined-orders (round-prog small m texted d joined-written);
           weight = λ w. rw joined-orders (round-weight w small m texted d joined-written);
-          rows = joins-book j .rows ∙ omega (arith, add-no-rows (j .entered));
+          rows = joins-book j .rows ∙ omega (arith, add-reads (j .entered) .rowsCount);
           space =
               inr (
                 ltb-true (recovered x .marks .number + 1 + openIntents x) (2 ^ 64) (q .askable .numbers),
@@ -169,7 +169,7 @@ module _ (broker : List BrokerOrderStatus) (small : Small (chosen broker)) (r : 
   whole-count h w =
       let p = parts h in
       w ∙ ap (λ (o : Outcome). eventCount (o .addendum)) (p .is) ∙ ap eventCount (third-addendum r x (chosenAddendum broker r x))
-      ∙ add-entries (entered (p .second .askable))
+      ∙ add-reads (entered (p .second .askable)) .count
 
 -- ---- a round, refused or not
 pub led-next : (broker : List BrokerOrderStatus) → Small (chosen broker) → (r : Round) (x : List ℕ) → Bytes x → bookLayout x ≡ L.Sound

@@ -35,8 +35,8 @@ use Rattle.demand3.specs.Demand3.{recovered, openIntents, NoRepeat, reac
 use Rattle.demand3.specs.Claim.{SomeUncut}
 use Rattle.demand3.proofs.Progress.{weight-none, among-weight, reached-all, textWeight, texts-length}
 use Rattle.demand3.proofs.Calls.{First, first-full, first-is, Askable, Second, second-full, third-full, third-done, stages}
-use Rattle.demand3.proofs.AddendumBook.{length-addendum}
-use Rattle.demand3.proofs.EntriesJoined.{add-sound, add-entries, add-no-rows, add-texts}
+use Rattle.intents.proofs.Addenda.{addendum-size}
+use Rattle.demand3.proofs.EntriesJoined.{add-sound, add-reads}
 use Rattle.demand3.proofs.Leading.{Led, led-total, led-count}
 use Rattle.demand3.proofs.OneRound.{Shows, chosenAddendum, addendum-same, reached-open, entered, next-count, led-next}
 
@@ -107,7 +107,7 @@ module _ (broker : List BrokerOrderStatus) (small : Small (chosen broker)) (x : 
       elim (l .space) [ inl n ↦ absurd (omega (arith, led-total l)) | inr p ↦ p ] in
       let b = chosenAddendum broker u x in
       let ne : eventCount y ≡ eventCount x + openIntents x = led-count l ∙ omega (arith, led-total l) in
-      let nb = length-addendum (chosen broker) (u .time) (recovered x .marks .number) (reachedBy u x) in
+      let nb = addendum-size (chosen broker) (u .time) (recovered x .marks .number) (reachedBy u x) in
       let ny = sound-size y (l .sound) in
       let sy = sound-most y (l .sound) in
       let ky = sound-counts y (l .sound) in
@@ -126,9 +126,9 @@ module _ (broker : List BrokerOrderStatus) (small : Small (chosen broker)) (x : 
             (not-large (length b) (length (reachedBy u x)) 0 lb (omega arith) (omega arith));
       } in
       let en = entered broker small u x bx sx shows a in
-      let nc = add-entries en in
-      let rc = add-no-rows en in
-      let tc = add-texts en in
+      let nc = add-reads en .count in
+      let rc = add-reads en .rowsCount in
+      let tc = add-reads en .textSize in
       let k : u .k ≡ eventCount b = c .whole ∙ sym nr ∙ sym nc in
       let lj : joinedLength x b (u .k) ≤ 1048576 = omega arith in
       record {

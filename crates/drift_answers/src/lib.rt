@@ -15,31 +15,11 @@ pub fn drift_numbers(d: Drift) -> Numbers
             a: n as u64,
             b: float::bits::to_bits(x),
         },
-        Drift::Oversize => Numbers {
-            refusal: 1,
-            a: 0,
-            b: 0,
-        },
-        Drift::Broken => Numbers {
-            refusal: 2,
-            a: 0,
-            b: 0,
-        },
-        Drift::BadWeight => Numbers {
-            refusal: 11,
-            a: 0,
-            b: 0,
-        },
-        Drift::OutOfRange => Numbers {
-            refusal: 12,
-            a: 0,
-            b: 0,
-        },
-        Drift::NoRoom => Numbers {
-            refusal: 3,
-            a: 0,
-            b: 0,
-        },
+        Drift::Oversize => answers::OVERSIZE,
+        Drift::Broken => answers::BROKEN,
+        Drift::BadWeight => answers::BAD_WEIGHT,
+        Drift::OutOfRange => answers::OUT_OF_RANGE,
+        Drift::NoRoom => answers::NO_ROOM,
     }
 }
 
@@ -52,20 +32,8 @@ pub fn held_numbers(h: Held) -> Numbers
             a: wire::unsigned(v),
             b: 0,
         },
-        Held::Oversize => Numbers {
-            refusal: 1,
-            a: 0,
-            b: 0,
-        },
-        Held::Broken => Numbers {
-            refusal: 2,
-            a: 0,
-            b: 0,
-        },
-        Held::OutOfRange => Numbers {
-            refusal: 12,
-            a: 0,
-            b: 0,
-        },
+        Held::Oversize => answers::OVERSIZE,
+        Held::Broken => answers::BROKEN,
+        Held::OutOfRange => answers::OUT_OF_RANGE,
     }
 }

@@ -23,16 +23,8 @@ fn equality_numbers(e: Equality) -> Numbers
             a: crate::truth_number(b),
             b: 0,
         },
-        Equality::Oversize => Numbers {
-            refusal: 1,
-            a: 0,
-            b: 0,
-        },
-        Equality::Broken => Numbers {
-            refusal: 2,
-            a: 0,
-            b: 0,
-        },
+        Equality::Oversize => answers::OVERSIZE,
+        Equality::Broken => answers::BROKEN,
     }
 }
 
@@ -58,10 +50,7 @@ pub fn lent_equality(
 ) -> Numbers
     ensures { λ n. ⌜ n ≡ numbers (lentEqualityNumbers (now («book_a» .entry)) (now («marks_a» .entry)) (now («orders_a» .entry)) (now («positions_a» .entry)) (now («book_b» .entry)) (now («marks_b» .entry)) (now («orders_b» .entry)) (now («positions_b» .entry))) ⌝ }
 {
-    if !crate::marks_ok(marks_a) {
-        return broken_marks_of(book_a, book_b);
-    }
-    if !crate::marks_ok(marks_b) {
+    if !(crate::marks_ok(marks_a) & crate::marks_ok(marks_b)) {
         return broken_marks_of(book_a, book_b);
     }
     let a = marks_record::marks_of(marks_a);
@@ -88,21 +77,9 @@ fn comparison_numbers(c: Comparison) -> Numbers
             a: r.count as u64,
             b: crate::truth_number(r.critical),
         },
-        Comparison::Oversize => Numbers {
-            refusal: 1,
-            a: 0,
-            b: 0,
-        },
-        Comparison::Broken => Numbers {
-            refusal: 2,
-            a: 0,
-            b: 0,
-        },
-        Comparison::NoRoom => Numbers {
-            refusal: 3,
-            a: 0,
-            b: 0,
-        },
+        Comparison::Oversize => answers::OVERSIZE,
+        Comparison::Broken => answers::BROKEN,
+        Comparison::NoRoom => answers::NO_ROOM,
     }
 }
 

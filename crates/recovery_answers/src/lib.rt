@@ -70,11 +70,7 @@ fn action_numbers(a: Action) -> Numbers
             a: action_code(action),
             b: 0,
         },
-        Action::Broken => Numbers {
-            refusal: 2,
-            a: 0,
-            b: 0,
-        },
+        Action::Broken => answers::BROKEN,
     }
 }
 
@@ -103,16 +99,8 @@ fn step_numbers(s: Stepped) -> Numbers
             a: 0,
             b: 0,
         },
-        Stepped::Oversize => Numbers {
-            refusal: 1,
-            a: 0,
-            b: 0,
-        },
-        Stepped::Broken => Numbers {
-            refusal: 2,
-            a: 0,
-            b: 0,
-        },
+        Stepped::Oversize => answers::OVERSIZE,
+        Stepped::Broken => answers::BROKEN,
     }
 }
 

@@ -1,37 +1,31 @@
 -- The reference sequence by computation: every row gives what is due, and the rows are M1 to M12. About no function.
 -- Assumes nothing.
-use Prim.Native.Nat.{ℕ}
 use mathlib.Core.Path.{_≡_, refl}
-use mathlib.Core.List.{List, [], _∷_, map, flatMap}
+use mathlib.Core.List.{[], _∷_, map, flatMap}
 use mathlib.Core.Bool.{true}
 use lib.Ieee.{round}
-use Rattle.wire.specs.Le.{le, bytesOf, sameBytes}
-use Rattle.wire.specs.Table.{every, records, encoded, padded}
+use Rattle.wire.specs.Table.{padded}
 use Rattle.symbol.specs.Symbol.{allOf, parses, parsed, fieldOk, wideFieldOk}
 use Rattle.types.specs.Fixed.{toFixed, toCents}
-use Rattle.cell.specs.Cell.{cellBy, cellOf}
-use Rattle.book.specs.Layout.{payloadOk, cellOk, rowCellOk, rowOk, windowOk, headOk, eventHeadOk, eventOk, tablesOk, partsOk, bookLayout}
-use Rattle.book.specs.Layout as Book
-use Rattle.checkpoint.specs.Checkpoint.{eventName, checkpoints, namedAmong, named}
-use Rattle.sheet.specs.Sheet.{markOk, headerOk, brokerOrderOk, sheetLayout, sheetOrders, sheetPositions}
-use Rattle.sheet.specs.Sheet as Sheet
+use Rattle.sheet.specs.Sheet.{offsetsOk, markOk, headerOk, brokerOrderOk, partsOk, sheetLayout, sheetOrders, sheetPositions}
 use Rattle.records.specs.Record.{orderBytes, orderOf, orderOk, positionBytes, positionOf, tableOk}
 use Rattle.records.specs.Search.{anyWhere, countWhere, changeFirst}
 use Rattle.marks.specs.Marks.{marksAt}
 use Rattle.effects.specs.Step.{marksBy, positionsOfRows, intended, ordersAt, positionsAt, ordersBy, positionsBy}
 use Rattle.audit.specs.Verdict.{firstFault, walk, found, place, lastEmpty, rules, verdictOf, bookVerdict}
-use Rattle.audit.proofs.BookBytes.{eventTable, bookBytes}
+use Rattle.samples.specs.BookBytes.{bookOpened}
+use Rattle.samples.specs.SheetBytes.{sheetBytes}
 use Rattle.marks.specs.Action.{actionOf}
 use Rattle.recovery.specs.Recover.{steps, roomy, recovery, ordersOut}
 use Rattle.join.specs.Join.{bookOf}
 use Rattle.intents.specs.Intents.{query, chosen, reached, unreached, entryText, entryBytes, entryTable, entryTexts, addendum, lentAddendum, reconciling, addendumOut}
 use Rattle.compare.specs.Report.{pass, expectedOf, report, discrepancyBytes}
 use Rattle.compare.specs.Compare.{comparison, reportOut}
-use Rattle.reference.specs.Reference.{sameNumbers, allDue, number, recovered, reconciled, twoIntents, sheetOf, reconciledBy, compared, reference}
+use Rattle.reference.specs.Reference.{sameNumbers, allDue, number, recoveredOrders, reconciled, twoIntents, reconciledBy, compared, reference}
 
 -- all that the rows go through
 unfoldable opened : Unit {0}
-unfolding round le bytesOf sameBytes every records encoded padded allOf parses parsed fieldOk wideFieldOk toFixed toCents cellBy cellOf payloadOk cellOk rowCellOk rowOk windowOk headOk eventHeadOk eventOk Book.offsetsOk tablesOk partsOk bookLayout eventName checkpoints namedAmong named Sheet.offsetsOk markOk headerOk brokerOrderOk Sheet.partsOk sheetLayout sheetOrders sheetPositions orderBytes orderOf orderOk positionBytes positionOf tableOk anyWhere countWhere changeFirst marksAt marksBy positionsOfRows intended ordersAt positionsAt ordersBy positionsBy firstFault walk found place lastEmpty rules verdictOf bookVerdict eventTable bookBytes actionOf steps roomy recovery ordersOut bookOf query chosen reached unreached entryText entryBytes entryTable entryTexts addendum lentAddendum reconciling addendumOut pass expectedOf report discrepancyBytes comparison reportOut sameNumbers allDue flatMap recovered reconciled twoIntents sheetOf reconciledBy compared reference
+unfolding round bookOpened padded allOf parses parsed fieldOk wideFieldOk toFixed toCents offsetsOk markOk headerOk brokerOrderOk partsOk sheetLayout sheetOrders sheetPositions orderBytes orderOf orderOk positionBytes positionOf tableOk anyWhere countWhere changeFirst marksAt marksBy positionsOfRows intended ordersAt positionsAt ordersBy positionsBy firstFault walk found place lastEmpty rules verdictOf bookVerdict actionOf steps roomy recovery ordersOut bookOf query chosen reached unreached entryText entryBytes entryTable entryTexts addendum lentAddendum reconciling addendumOut pass expectedOf report discrepancyBytes comparison reportOut sameNumbers allDue flatMap recoveredOrders reconciled twoIntents sheetBytes reconciledBy compared reference
 opened = tt
 
 pub all-due : allDue reference ≡ true

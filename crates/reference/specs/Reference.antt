@@ -1,14 +1,14 @@
 -- Document 01's reference sequence, M1 to M12, as one list with one test. Each row asks the definitions that an entry's promise cites, on bytes or on
 -- f64s as a caller lends them.
 -- Assumes nothing.
-use Prim.Native.Nat.{ℕ, _+_, _*_, _^_}
+use Prim.Native.Nat.{ℕ, _*_, _^_}
 use Prim.Native.String.{String}
 use mathlib.Core.List.{List, [], _∷_, _++_, map, flatMap}
 use mathlib.Core.Bool.{Bool, true, false, _&&_}
 use mathlib.Core.Option.{Option, none, some}
 use lib.IntN.{ℤ, pos, negℤ}
 use lib.Ieee.{Float, binary64, round}
-use lib.ListN.{set, replicate}
+use lib.ListN.{set}
 use lib.Signed.{leZ}
 use Rattle.wire.specs.Le.{le, bytesOf}
 use Rattle.symbol.specs.Symbol.{symbolOf, wideFieldBytes}
@@ -21,7 +21,8 @@ use Rattle.book.specs.declared.event.SequenceNumber.the-variants as N
 use Rattle.checkpoint.specs.Checkpoint.{ascii}
 use Rattle.audit.specs.Verdict.{bookVerdict, verdictNumbers}
 use Rattle.audit.specs.declared.validate.Verdict.{Verdict}
-use Rattle.audit.proofs.BookBytes.{EventParts, part, cellsWith, numbered, numberedWith, bookBytes}
+use Rattle.samples.specs.BookBytes.{EventParts, part, cellsWith, numbered, numberedWith, intent, begun, bookBytes}
+use Rattle.samples.specs.SheetBytes.{listed, sheetBytes}
 use Rattle.records.specs.Record.{ordersIn, positionBytes}
 use Rattle.records.specs.declared.order.Order.{Order}
 use Rattle.marks.specs.Marks.{firstMarks}
@@ -73,7 +74,7 @@ judged v = let n = verdictNumbers v in pos (n .0) ∷ pos (n .1) ∷ pos (n .2) 
 
 -- the desk program's book, its diff with a cell of orders
 abbrev pub deskBook : EventParts → List ℕ
-deskBook diff = bookBytes (numbered "run_started" 1 ∷ numbered "positions_intent" 2 ∷ numbered "positions_result" 3 ∷ diff ∷ []) [] []
+deskBook diff = bookBytes (begun ++ (diff ∷ [])) [] []
 
 -- ---- a recovery of one order: the refusal's number, then the ibkr_id and whether it is filled of each record written
 abbrev pub flag : Bool → ℤ
@@ -83,10 +84,10 @@ flag false = pos 0
 abbrev pub idAndFilled : Order → List ℤ
 idAndFilled o = o .id ∷ flag (o .filled) ∷ []
 
-unfoldable pub recovered : List ℕ → List ℤ
-recovered book = pos (recoveryNumber (recovery book (pos 0) 64 0)) ∷ flatMap idAndFilled (ordersIn (ordersOut book (pos 0) 64 0))
+unfoldable pub recoveredOrders : List ℕ → List ℤ
+recoveredOrders book = pos (recoveryNumber (recovery book (pos 0) 64 0)) ∷ flatMap idAndFilled (ordersIn (ordersOut book (pos 0) 64 0))
 
--- a diff of one order of the symbol AB, and events behind it
+-- a diff of one order of the symbol AB, and events after it
 abbrev pub oneOrder : List EventParts → List ℕ
 oneOrder es =
     bookBytes (numberedWith "diff_computed" 1 10 (part 6 (2 ^ 32)) ∷ es)
@@ -129,39 +130,19 @@ reconciled m orders sheet queries =
     ++ flatMap entryOf (eventsOf (addendumOut m orders sheet queries (pos 9) 1024))
 
 -- a log whose last number is 6, with intents of AB and CD
-abbrev pub intent : ℕ → ℕ → EventParts
-intent n first =
-    record {
-      name = ascii "order_intent";
-      mark = 1;
-      number = n;
-      cells = part 4 (2 * 2 ^ 32 + first) ∷ part 4 (2 ^ 32) ∷ part 4 (2 ^ 32) ∷ part 1 5 ∷ part 1 1 ∷ replicate 8 (part 0 0);
-    }
-
 unfoldable pub twoIntents : List ℕ
-twoIntents =
-    bookBytes
-    (numbered "run_started" 1 ∷ numbered "positions_intent" 2 ∷ numbered "positions_result" 3 ∷ numbered "diff_computed" 4 ∷ intent 5 0 ∷ intent 6 2 ∷ [])
-    [] (ascii "ABCD")
+twoIntents = bookBytes (begun ++ (numbered "diff_computed" 4 ∷ intent 5 0 ∷ intent 6 2 ∷ [])) [] (ascii "ABCD")
 
-abbrev pub marksOf : Recovery → Marks
-marksOf (R.Done r) = r .marks
-marksOf R.Oversize = firstMarks (pos 0)
-marksOf R.Broken = firstMarks (pos 0)
-marksOf R.NoRoom = firstMarks (pos 0)
-
--- a broker's order with so much left, and a sheet of orders and positions, neither failed
-abbrev pub listed : ℕ → ℕ → List ℕ
-listed id left = bytesOf 8 id ++ bytesOf 8 left ++ bytesOf 4 1 ++ bytesOf 4 0
-
-unfoldable pub sheetOf : ℕ → List ℕ → ℕ → List ℕ → List ℕ
-sheetOf n orders k positions =
-    bytesOf 4 n ++ bytesOf 4 24 ++ bytesOf 4 k ++ bytesOf 4 (24 + 24 * n) ++ bytesOf 4 0 ++ bytesOf 4 0 ++ orders ++ positions
+abbrev pub recoveredMarks : Recovery → Marks
+recoveredMarks (R.Done r) = r .marks
+recoveredMarks R.Oversize = firstMarks (pos 0)
+recoveredMarks R.Broken = firstMarks (pos 0)
+recoveredMarks R.NoRoom = firstMarks (pos 0)
 
 -- recovery of that log, then reconciling with the sheet's orders 77 (0 left) and 78 (5 left)
 unfoldable pub reconciledBy : List ℕ → List ℤ
 reconciledBy queries =
-    reconciled (marksOf (recovery twoIntents (pos 0) 128 0)) (ordersOut twoIntents (pos 0) 128 0) (sheetOf 2 (listed 77 0 ++ listed 78 5) 0 []) queries
+    reconciled (recoveredMarks (recovery twoIntents (pos 0) 128 0)) (ordersOut twoIntents (pos 0) 128 0) (sheetBytes 2 (listed 77 0 ++ listed 78 5) 0 []) queries
 
 -- ---- a comparison of recovered positions with a sheet of positions: the refusal's number, the count, and the kind of the first record written
 abbrev pub countOf : Comparison → ℕ
@@ -231,13 +212,13 @@ reference =
     ∷ record {
       m = 8;
       says = "ibkr_id 4,294,967,297 submitted is stored as 1; only a fill of 1 matches";
-      given = recovered (oneOrder (submission 4294967297 ∷ fill 4294967297 ∷ [])) ++ recovered (oneOrder (submission 4294967297 ∷ fill 1 ∷ []));
+      given = recoveredOrders (oneOrder (submission 4294967297 ∷ fill 4294967297 ∷ [])) ++ recoveredOrders (oneOrder (submission 4294967297 ∷ fill 1 ∷ []));
       due = (pos 0 ∷ pos 1 ∷ flag false ∷ []) ++ (pos 0 ∷ pos 1 ∷ flag true ∷ []);
     }
     ∷ record {
       m = 9;
       says = "a fill of 0 fills an unsubmitted order";
-      given = recovered (oneOrder (fill 0 ∷ []));
+      given = recoveredOrders (oneOrder (fill 0 ∷ []));
       due = pos 0 ∷ pos 0 ∷ flag true ∷ [];
     }
     ∷ record {
@@ -256,7 +237,7 @@ reference =
     ∷ record {
       m = 12;
       says = "a recovered quantity 0 unknown to the broker is a mismatch; the reverse isn't";
-      given = compared held (sheetOf 0 [] 0 []) ++ compared [] (sheetOf 0 [] 1 listedPosition);
+      given = compared held (sheetBytes 0 [] 0 []) ++ compared [] (sheetBytes 0 [] 1 listedPosition);
       due = (pos 0 ∷ pos 1 ∷ pos 4 ∷ []) ++ (pos 0 ∷ pos 0 ∷ pos 0 ∷ []);
     }
     ∷ []

@@ -4,7 +4,6 @@
 // It reads `examples.bin`, written by `make`, from the folder it is run in. The reference sequence itself, M1 to M12, is the crate `reference`.
 mod desk;
 mod example;
-mod numbers;
 mod refusals;
 mod tell;
 mod turns;

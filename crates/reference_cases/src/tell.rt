@@ -41,3 +41,12 @@ pub fn three(text: &[u8], x: u64, y: u64, z: u64) {
     number(z);
     end();
 }
+
+// A refusal's number alone, or 0 and the value where there is none.
+pub fn value(text: &[u8], refusal: u32, x: u64) {
+    if refusal != 0 {
+        one(text, refusal as u64);
+        return;
+    }
+    two(text, 0, x);
+}

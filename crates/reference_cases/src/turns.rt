@@ -1,59 +1,34 @@
 // The wrong turns: what the entries give where a wrong turn would give something else.
 use crate::example;
-use crate::numbers;
 use crate::refusals;
 use crate::tell;
-use intents::Reconciled;
-use intents::Reconciling;
-use marks::action::RecoveryAction;
-use recovery::recover::Recovered;
-use recovery::recover::Recovery;
 
-fn tell_fill(label: &[u8], refusal: u64, order: &[u8]) {
-    if refusal != 0 {
-        tell::one(label, refusal);
-        return;
-    }
-    tell::three(
-        label,
-        0,
-        wire::u32_at(order, 12) as u64,
-        (wire::u8_at(order, 9) / 2 % 2) as u64,
-    );
+// Recovery of one order: the refusal's number, and the answer's bytes.
+fn recover_one(e: &[u8], orders: &mut [u8], answer: &mut [u8]) -> u32 {
+    let mut positions = [0u8; 32];
+    let r = recovery::recover::reconstruct_state(example::first(e), 0, orders, &mut positions);
+    recovery_answers::give_recovery(r, answer)
 }
 
 // Recovery of one order: refusal, ibkr_id, and whether it is filled.
 pub fn fill(e: &[u8]) {
     let mut orders = [0u8; 64];
-    let mut positions = [0u8; 32];
-    let r = recovery::recover::reconstruct_state(example::first(e), 0, &mut orders, &mut positions);
-    tell_fill(example::label(e), numbers::recovery(r), &orders);
+    let mut answer = [0u8; 200];
+    let refusal = recover_one(e, &mut orders, &mut answer);
+    tell::three(
+        example::label(e),
+        refusal as u64,
+        wire::u32_at(&orders, 12) as u64,
+        (wire::u8_at(&orders, 9) / 2 % 2) as u64,
+    );
 }
 
-// 0 Restart, 1 Resume, 2 ManualReview.
-fn action(label: &[u8], r: Recovered) {
-    let action = r.action;
-    match action {
-        RecoveryAction::Restart => tell::two(label, 0, 0),
-        RecoveryAction::Resume => tell::two(label, 0, 1),
-        RecoveryAction::ManualReview => tell::two(label, 0, 2),
-    }
-}
-
-fn tell_action(label: &[u8], r: Recovery) {
-    let Recovery::Done(x) = r else {
-        tell::one(label, numbers::recovery(r));
-        return;
-    };
-    action(label, x);
-}
-
-// Recovery: refusal, action.
+// Recovery: refusal, action, which is 0 for Restart, 1 for Resume and 2 for ManualReview.
 pub fn restarted(e: &[u8]) {
     let mut orders = [0u8; 64];
-    let mut positions = [0u8; 32];
-    let r = recovery::recover::reconstruct_state(example::first(e), 0, &mut orders, &mut positions);
-    tell_action(example::label(e), r);
+    let mut answer = [0u8; 200];
+    let refusal = recover_one(e, &mut orders, &mut answer);
+    tell::value(example::label(e), refusal, wire::u64_at(&answer, 192));
 }
 
 // The entry `i` of an addendum of two: its symbol from the text, its number and its ibkr_id.
@@ -68,23 +43,18 @@ fn entry(addendum: &[u8], i: u8) {
     tell::end();
 }
 
-fn entries(label: &[u8], r: Reconciled, addendum: &[u8]) {
-    tell::three(label, 0, r.entries as u64, r.unreached as u64);
-    entry(addendum, 0);
-    entry(addendum, 1);
-}
-
-fn tell_entries(label: &[u8], answer: Reconciling, addendum: &[u8]) {
-    let Reconciling::Done(r) = answer else {
-        tell::one(label, numbers::reconciling(answer));
-        return;
-    };
-    entries(label, r, addendum);
-}
-
 // Reconciling of two intents: refusal, entries, unreached, and the entries.
 pub fn symbols(e: &[u8]) {
     let mut addendum = [0u8; 1024];
-    let answer = refusals::reconcile(e, &mut addendum);
-    tell_entries(example::label(e), answer, &addendum);
+    let mut answer = [0u8; 24];
+    let r = refusals::reconcile(e, &mut addendum);
+    let refusal = marks_answers::intents_answer::give_reconciling(r, &mut answer);
+    tell::three(
+        example::label(e),
+        refusal as u64,
+        wire::u64_at(&answer, 0),
+        wire::u64_at(&answer, 8),
+    );
+    entry(&addendum, 0);
+    entry(&addendum, 1);
 }

@@ -13,7 +13,7 @@ use Rattle.book.specs.Layout.{payloadOk, cellOk, rowCellOk, rowOk, windowOk, he
 use Rattle.sheet.specs.Sheet.{brokerOrderOk, headerOk, markOk, offsetsOk as sheetOffsetsOk, partsOk as sheetPartsOk, sheetLayout, sheetOrders, sheetPositions}
 use Rattle.checkpoint.specs.Checkpoint.{ascii, eventName, checkpoints, namedAmong, named}
 use Rattle.audit.specs.Verdict.{firstFault, walk, found, place, lastEmpty, rules, verdictOf, bookVerdict}
-use Rattle.audit.proofs.BookBytes.{EventParts, part, numbered, numberedWith, eventTable, bookBytes}
+use Rattle.samples.specs.BookBytes.{EventParts, part, numbered, numberedWith, eventTable, bookBytes}
 use Rattle.records.specs.Record.{tableOk}
 use Rattle.records.specs.Search.{anyWhere}
 use Rattle.marks.specs.Marks.{marksAt}

@@ -15,26 +15,10 @@ pub fn joining_numbers(j: Joining) -> Numbers
             a: n as u64,
             b: 0,
         },
-        Joining::Oversize => Numbers {
-            refusal: 1,
-            a: 0,
-            b: 0,
-        },
-        Joining::Broken => Numbers {
-            refusal: 2,
-            a: 0,
-            b: 0,
-        },
-        Joining::TooMany => Numbers {
-            refusal: 13,
-            a: 0,
-            b: 0,
-        },
-        Joining::NoRoom => Numbers {
-            refusal: 3,
-            a: 0,
-            b: 0,
-        },
+        Joining::Oversize => answers::OVERSIZE,
+        Joining::Broken => answers::BROKEN,
+        Joining::TooMany => answers::TOO_MANY,
+        Joining::NoRoom => answers::NO_ROOM,
     }
 }
 
@@ -47,30 +31,10 @@ pub fn rounded_numbers(r: Rounded) -> Numbers
             a: n as u64,
             b: 0,
         },
-        Rounded::Oversize => Numbers {
-            refusal: 1,
-            a: 0,
-            b: 0,
-        },
-        Rounded::Broken => Numbers {
-            refusal: 2,
-            a: 0,
-            b: 0,
-        },
-        Rounded::NoNumbers => Numbers {
-            refusal: 8,
-            a: 0,
-            b: 0,
-        },
-        Rounded::TooMany => Numbers {
-            refusal: 13,
-            a: 0,
-            b: 0,
-        },
-        Rounded::NoRoom => Numbers {
-            refusal: 3,
-            a: 0,
-            b: 0,
-        },
+        Rounded::Oversize => answers::OVERSIZE,
+        Rounded::Broken => answers::BROKEN,
+        Rounded::NoNumbers => answers::NO_NUMBERS,
+        Rounded::TooMany => answers::TOO_MANY,
+        Rounded::NoRoom => answers::NO_ROOM,
     }
 }

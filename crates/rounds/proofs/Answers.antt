@@ -27,7 +27,7 @@ use Rattle.join.specs.Join.{joined, joinedLength, tooLarge, joinsIf, joining, j
 use Rattle.join.specs.declared.Joining.{Joining}
 use Rattle.join.specs.declared.Joining.the-variants as Joins
 use Rattle.join.proofs.Joined.{joined-size}
-use Rattle.rounds.specs.Rounds.{Round, afterJoin, joinRound, lentOrders, lentAddendum, afterReconciling, reconcileRound, afterRecovery, roundOf, next, done}
+use Rattle.rounds.specs.Rounds.{Round, afterJoin, joinRound, lentOrders, writtenAddendum, afterReconciling, reconcileRound, afterRecovery, roundOf, next, done}
 
 pub by-bool {ℓ} : {X : Type ℓ} (b : Bool) → (b ≡ true → X) → (b ≡ false → X) → X
 by-bool true f g = f refl
@@ -152,7 +152,7 @@ reconciling-refused : (r : Round) (log : List ℕ) (x : Recovered) (v : Reconcil
     → afterReconciling r log x v .log ≡ log
 unfolding joinRound
 reconciling-refused r log x (Ask.Done y) h =
-    join-refused r log (lentAddendum r log x y) (joining log (lentAddendum r log x y) (r .k) (r .joined)) h
+    join-refused r log (writtenAddendum r log x y) (joining log (writtenAddendum r log x y) (r .k) (r .joined)) h
 reconciling-refused r log x Ask.Oversize h = refl
 reconciling-refused r log x Ask.Broken h = refl
 reconciling-refused r log x Ask.NoNumbers h = refl

@@ -13,7 +13,7 @@ use Rattle.symbol.specs.Symbol.{allOf, wideFieldOk, fieldOk}
 use Rattle.book.specs.Layout.{payloadOk, cellOk, rowCellOk, rowOk, windowOk, headOk, eventHeadOk, eventOk, offsetsOk, tablesOk, partsOk, bookLayout}
 use Rattle.book.specs.Time.{timeLayout}
 use Rattle.sheet.specs.Sheet.{brokerOrderOk, headerOk, markOk, offsetsOk as sheetOffsetsOk, partsOk as sheetPartsOk, sheetLayout}
-use Rattle.audit.proofs.BookBytes.{eventTable, bookBytes}
+use Rattle.samples.specs.BookBytes.{eventTable, bookBytes}
 use Rattle.recovery.specs.Recover.{recovery}
 use Rattle.reply.specs.Result.{Refused, bookResult, deskResultAt}
 use Rattle.reply.specs.Text.{resultText}

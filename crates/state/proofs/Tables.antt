@@ -5,6 +5,7 @@ use mathlib.Core.Path.{_≡_, refl, ap}
 use mathlib.Core.List.{List}
 use mathlib.Core.Bool.{Bool, true, false}
 use native.Mathlib.Omega.{arith}
+use lib.Dec.{eqb}
 use lib.IntN.{ℤ}
 use lib.ListN.{drop}
 use mir.Syntax.{w32, w64}
@@ -47,17 +48,12 @@ module _ {A : Type 0} (f : A → A → Bool) (g : List ℕ → A) (w : ℕ) wher
     unfolding sameLists
     lists-end i h = rw (rest-none g w n a i h, rest-none g w n b i h)
 
--- numbers that fit, read back from their bits
-pub int-back : (x y : ℤ) → SFits w64 x → SFits w64 y → sameInt (toZ w64 (ofZ w64 x)) (toZ w64 (ofZ w64 y)) ≡ sameInt x y
-int-back x y f g = rw (toZ-ofZ w64 x f, toZ-ofZ w64 y g)
+-- an i32 fits an i64, and is compared as one
+pub fits-wide : (x : ℤ) → SFits w32 x → SFits w64 (toZ w32 (ofZ w32 x))
+fits-wide x f = rw (toZ-ofZ w32 x f) (record { sfits = omega (arith, f .sfits) })
 
--- an i32 fits an i64
-pub fits-wide : (x : ℤ) → SFits w32 x → SFits w64 x
-fits-wide x f = record { sfits = omega (arith, f .sfits) }
-
-pub wide-back : (x y : ℤ) → SFits w32 x → SFits w32 y
-    → sameInt (toZ w64 (ofZ w64 (toZ w32 (ofZ w32 x)))) (toZ w64 (ofZ w64 (toZ w32 (ofZ w32 y)))) ≡ sameInt x y
-wide-back x y f g = rw (toZ-ofZ w32 x f, toZ-ofZ w32 y g) (int-back x y (fits-wide x f) (fits-wide y g))
+pub same-wide : (x y : ℤ) → SFits w32 x → SFits w32 y → eqb (ofZ w64 (toZ w32 (ofZ w32 x))) (ofZ w64 (toZ w32 (ofZ w32 y))) ≡ sameInt x y
+same-wide x y f g = rw (toZ-ofZ w32 x f, toZ-ofZ w32 y g)
 
 -- the flags below 8 are those that equality reads
 low-flags : (n : ℕ) (d e : Bool) → n ≤ 7 → (n + flag d 8 + flag e 16) % 8 ≡ n

@@ -17,13 +17,9 @@ fn ref_in(s: &[u8], text: u32) -> bool
 fn refs_ok(s: &[u8], text: u32) -> bool
     ensures { λ r. ⌜ r ≡ refsOk text (now (s .entry)) ⌝ }
 {
-    if !ref_in(wire::from(s, 32), text) {
-        return false;
-    }
-    if !ref_in(wire::from(s, 40), text) {
-        return false;
-    }
-    ref_in(wire::from(s, 48), text)
+    ref_in(wire::from(s, 32), text)
+        & ref_in(wire::from(s, 40), text)
+        & ref_in(wire::from(s, 48), text)
 }
 
 fn refs_ok_at(s: &[u8], at: usize, text: u32) -> bool

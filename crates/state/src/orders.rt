@@ -3,7 +3,6 @@ ghost use mathlib.Core.Path.{_≡_};
 ghost use lib.Dec.{eqb};
 ghost use Rattle.wire.specs.Le.{sameBytes};
 ghost use Rattle.state.specs.State.{readFlags, textOr, sameTexts, sameOrder, samePosition};
-use crate::run;
 use cell::AsStr;
 use records::order::Order;
 use records::position::Position;
@@ -29,17 +28,11 @@ fn same_texts(s: &[u8], t: &[u8], o: Order, p: Order) -> bool
 {
     let x = book::event::text_part(s, o.action);
     let y = book::event::text_part(t, p.action);
-    if !wire::same(x, y) {
-        return false;
-    }
     let client = o.client;
     let other = p.client;
-    if !same_text(s, t, client, other) {
-        return false;
-    }
     let reason = o.reason;
     let another = p.reason;
-    same_text(s, t, reason, another)
+    wire::same(x, y) & same_text(s, t, client, other) & same_text(s, t, reason, another)
 }
 
 // Submitted, filled and failed: the flags below 8.
@@ -53,33 +46,17 @@ pub fn same_order(s: &[u8], t: &[u8], o: Order, p: Order) -> bool
     ensures { λ r. ⌜ r ≡ sameOrder (now (s .entry)) (now (t .entry)) o p ⌝ }
 {
     let y = o.symbol;
-    if !y.same(p.symbol) {
-        return false;
-    }
-    if !same_flags(o, p) {
-        return false;
-    }
-    if !run::same_int(o.id as i64, p.id as i64) {
-        return false;
-    }
-    if !run::same_int(o.shares, p.shares) {
-        return false;
-    }
-    if !run::same_int(o.limit, p.limit) {
-        return false;
-    }
-    same_texts(s, t, o, p)
+    y.same(p.symbol)
+        & same_flags(o, p)
+        & (o.id as i64 == p.id as i64)
+        & (o.shares == p.shares)
+        & (o.limit == p.limit)
+        & same_texts(s, t, o, p)
 }
 
 pub fn same_position(p: Position, q: Position) -> bool
     ensures { λ r. ⌜ r ≡ samePosition p q ⌝ }
 {
     let y = p.symbol;
-    if !y.same(q.symbol) {
-        return false;
-    }
-    if !run::same_int(p.quantity, q.quantity) {
-        return false;
-    }
-    run::same_int(p.cost, q.cost)
+    y.same(q.symbol) & (p.quantity == q.quantity) & (p.cost == q.cost)
 }

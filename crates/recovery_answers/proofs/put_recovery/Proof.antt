@@ -2,16 +2,11 @@
 use borrow.Author.Needs.{needs}
 use Rattle.recovery_answers.proofs.put_recovery.Statement.{statement}
 use Rattle.recovery_answers.proofs.put_recovery.Tie as tie
-use mathlib.Core.Path.{_≡_, sym, ap, _∙_}
+use mathlib.Core.Path.{refl, ap, _∙_}
 use mathlib.Core.List.{List}
 use Prim.Native.Nat.{ℕ}
 use lib.Seq.{sets}
-use Rattle.recovery.specs.Recover.{recoveryNumber}
-use Rattle.recovery.specs.declared.recover.Recovery.{Recovery}
-use Rattle.recovery_answers.specs.RecoveryAnswer.{recoveredBytes, recoveryBytes}
-
-carry : (room : ℕ) {r q : Recovery} {s : List ℕ} → r ≡ q → s ≡ recoveryBytes q room → (recoveryNumber q ≡ recoveryNumber r) × (s ≡ recoveryBytes r room)
-carry room e h = (ap recoveryNumber (sym e), h ∙ ap (λ (x : Recovery). recoveryBytes x room) (sym e))
+use Rattle.recovery_answers.specs.RecoveryAnswer.{recoveredBytes}
 
 enum-known-r : tie.Need-enum-known-r
 enum-known-r c = search needs
@@ -36,16 +31,16 @@ returns c =
     let put = c .before .before in
     let x = put .before .before .before .r .given in
     let start = put .before .before .before .before .before .before in
-    carry _ (x .1) (put .put-recovered .ensures ∙ ap (λ (d : List ℕ). sets d 0 (recoveredBytes (x .0 .0))) (start .pre))
+    rw (x .1) (refl, put .put-recovered .ensures ∙ ap (λ (d : List ℕ). sets d 0 (recoveredBytes (x .0 .0))) (start .pre))
 
 returns-2 : tie.Need-returns-2
-returns-2 c = carry _ (c .enum-told .given .1) (c .before .before .before .pre)
+returns-2 c = rw (c .enum-told .given .1) (refl, c .before .before .before .pre)
 
 returns-3 : tie.Need-returns-3
-returns-3 c = carry _ (c .enum-told2 .given .1) (c .before .before .before .pre)
+returns-3 c = rw (c .enum-told2 .given .1) (refl, c .before .before .before .pre)
 
 returns-4 : tie.Need-returns-4
-returns-4 c = carry _ (c .enum-told3 .given .1) (c .before .before .before .pre)
+returns-4 c = rw (c .enum-told3 .given .1) (refl, c .before .before .before .pre)
 
 pub put-recovery-spec : {M : Type 1} → statement M
 put-recovery-spec =

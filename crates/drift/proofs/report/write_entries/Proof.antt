@@ -19,7 +19,7 @@ use Rattle.wire.specs.Table.{encoded, padded}
 use Rattle.drift.specs.Symbols.{allWhere}
 use Rattle.drift.specs.Entry.{entryBytes, lineEntry, lineFits, lineBytes}
 use Rattle.drift.specs.Report.{squares, reportOf}
-use Rattle.drift.specs.Code.{madeOf, symbolAt, lineAt, linesAt}
+use Rattle.drift.specs.Code.{madeOf, key, symbolAt, lineAt, linesAt}
 use Rattle.drift.specs.declared.entry.ReconcileEntry.{ReconcileEntry}
 use Rattle.drift.specs.declared.entry.Made.the-variants as M
 use Rattle.drift.specs.declared.report.Drift.the-variants as D
@@ -136,7 +136,7 @@ loop-again c =
       l .inv .2 ∙ all-next f (a .n) (lineFits e) (l .k) h (r .0),
       ap (λ (y : ReconcileEntry). squares (add binary64 (l .sum) (mul binary64 (y .«diff_weight») (y .«diff_weight»))) (map (lineEntry e) after)) (r .1) ∙ sym (squares-next f (a .n) e (l .sum) (l .k) h) ∙ l .inv .3,
       ap (λ (d : List ℕ). sets d (64 * (l .k + 1)) (encoded (lineBytes e) after))
-          (c .before .before .before .put-entry .ensures ∙ ap (λ (y : ReconcileEntry). sets (l .entries) (64 * l .k) (entryBytes (symbolAt (getD (now (a .words)) (l .k) 0)) y)) (r .1))
+          (c .before .before .before .put-entry .ensures ∙ ap (λ (y : ReconcileEntry). sets (l .entries) (64 * l .k) (entryBytes (symbolAt (key (getD (now (a .words)) (l .k) 0))) y)) (r .1))
           ∙ sym (bytes-next f (a .n) e (l .entries) (l .k) h) ∙ l .inv .4,
     )
 

@@ -6,13 +6,14 @@ use mathlib.Core.List.{List}
 use native.Mathlib.Nat.{mul-comm, div-mul-le-self}
 use native.Mathlib.Omega.{arith}
 use denote.Ref.{now}
+use lib.Dec.{ltb}
 use lib.ListN.{length, replicate, length-replicate}
 use Rattle.wire.proofs.Records.{Each, length-records}
 use Rattle.symbol.specs.declared.Symbol.{Symbol}
 use Rattle.symbol.proofs.Text.{bytes-of}
 use Rattle.drift.specs.Rows.{rowOf, rowsIn}
 use Rattle.drift.specs.Symbols.{sortedWith}
-use Rattle.drift.specs.Code.{keyFirst, Listed, wordsOf, Noted}
+use Rattle.drift.specs.Code.{Listed, keysOf, Noted}
 use Rattle.drift.specs.Code as Code
 use Rattle.drift.proofs.Looked.{sound-rows}
 use Rattle.drift.proofs.Sized.{Sized}
@@ -137,7 +138,7 @@ returns c =
     let us = quantity .last .1 .1 .1 .1 .1 .0 in
     let ts = weight .last .1 .1 .1 .1 .1 .0 in
     let cs = cost .last .1 .1 .1 .1 .1 .0 in
-    let sorted = k .gather2 .ensures .sorted ∙ ap (λ (z : List ℕ). sortedWith keyFirst z (wordsOf rt)) (g .gather .ensures .sorted) in (
+    let sorted = k .gather2 .ensures .sorted ∙ ap (λ (z : List ℕ). sortedWith ltb z (keysOf rt)) (g .gather .ensures .sorted) in (
       record {
         most = all-few k;
         words = omega (arith, all-room k, all-size k);

@@ -1,6 +1,7 @@
 // The symbols' keys in order, in an array whose first n elements are taken, and what was last said of each symbol in an array beside it.
 ghost use mathlib.Core.Path.{_≡_};
-ghost use Prim.Native.Nat.{_+_, _-_, _*_, _/_, _≤_, _<_, suc};
+ghost use Prim.Native.Nat.{_+_, _-_, _*_, _^_, _≤_, _<_, suc};
+ghost use mathlib.Core.Bool.{cond};
 ghost use mathlib.Core.List.{_++_};
 ghost use lib.Dec.{ltb};
 ghost use lib.ListN.{length, take, drop};
@@ -33,8 +34,15 @@ pub fn len_of(x: u64) -> u64
     (71 - u64::leading_zeros(x) as u64) / 8
 }
 
-// Where x stands, or would stand, among the first n. `half << below` less `half` is `half` or 0: a branch in its place is guessed wrong every other time,
-// and the search takes twice as long.
+// `half` where `below` holds, else 0. A branch in place of the shift is guessed wrong every other time, and a search takes twice as long.
+fn step(half: usize, below: bool) -> usize
+    requires { ⌜ half < 2 ^ 63 ⌝ }
+    ensures { λ r. ⌜ r ≡ cond below half 0 ⌝ }
+{
+    (half << (below as usize)) - half
+}
+
+// Where x stands, or would stand, among the first n.
 fn place(words: &[u64], n: usize, x: u64) -> usize
     requires { ⌜ n ≤ length (now words) ⌝ ∗ ⌜ Rising (take n (now words)) ⌝ }
     ensures { λ r. ⌜ Place (now (words .entry)) n x r ⌝ }
@@ -43,8 +51,7 @@ fn place(words: &[u64], n: usize, x: u64) -> usize
     let mut size = n;
     while 0 < size {
         let half = size - size / 2;
-        let below = (words[low + half - 1] < x) as usize;
-        low = low + (half << below) - half;
+        low += step(half, words[low + half - 1] < x);
         size = size / 2;
     }
     low

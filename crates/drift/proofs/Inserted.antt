@@ -48,7 +48,7 @@ old-in (z ∷ zs) (suc n) x (suc p) h b l e =
     let k : z < x = b .below 0 (omega arith) in
     rw (le-ltb x z (omega arith), lt-ltb z x k) (ap (λ (s : List ℕ). z ∷ s) (old-in zs n x p (le-of-suc-le-suc h) (shifted b) (le-of-suc-le-suc l) e))
 
-module _ (ws : List ℕ) (n x p : ℕ) (h : n ≤ length ws) (q : Place ws n x p) where
+module _ (ws : List ℕ) (n x p : ℕ) where
   pub there : found ws n p x ≡ true → (p < n) × (getD ws p 0 ≡ x)
   there f =
       (ltb-true p n (and-left (ltb p n) (eqb (getD ws p 0) x) f), eqb-true (getD ws p 0) x (and-right (ltb p n) (eqb (getD ws p 0) x) f))
@@ -58,9 +58,10 @@ module _ (ws : List ℕ) (n x p : ℕ) (h : n ≤ length ws) (q : Place ws n x p
       let t : found ws n p x ≡ true = rw (lt-ltb p n k, eq-eqb (getD ws p 0) x e) in
       never (sym f ∙ t)
 
+module _ (ws : List ℕ) (n x p : ℕ) (h : n ≤ length ws) (q : Place ws n x p) where
   -- ---- x stands there already, or is put there
   pub insert-old : found ws n p x ≡ true → inserted ltb x (take n ws) ≡ take n ws
-  insert-old f = old-in ws n x p h q (there f .0) (there f .1)
+  insert-old f = let t = there ws n x p f in old-in ws n x p h q (t .0) (t .1)
 
   pub insert-new : n < length ws → found ws n p x ≡ false → take (n + 1) (set (opened ws n p) p x) ≡ inserted ltb x (take n ws)
   insert-new l f =
@@ -75,7 +76,7 @@ module _ (ws : List ℕ) (n x p : ℕ) (h : n ≤ length ws) (q : Place ws n x p
       ap (λ (s : List ℕ). set s p x) one ∙ set-at (take p ws) (getD ws p 0) (t ++ u) x p len in
       let whole : length (take p ws ++ (x ∷ t)) ≡ n + 1 = length-append (take p ws) (x ∷ t) ∙ rw (len, size-t) (omega arith) in
       ap (take (n + 1)) (two ∙ sym (append-assoc (take p ws) (x ∷ t) u)) ∙ take-at (take p ws ++ (x ∷ t)) u (n + 1) whole
-      ∙ sym (new-in ws n x p h q (absent f))
+      ∙ sym (new-in ws n x p h q (absent ws n x p f))
 
   -- ---- what a row says of its symbol is noted at its place, and nowhere else
   module _ (r : Rising (take n ws)) where
@@ -100,9 +101,8 @@ module _ (ws : List ℕ) (n x p : ℕ) (h : n ≤ length ws) (q : Place ws n x p
       where
         by : (v : Bool) → eqb k p ≡ v → getD (set at p bits) k 0 ≡ cond (eqb x (getD ws k 0)) bits (getD at k 0)
         by true g =
-            let o = eqb-true k p g in
-            let l = there f .0 in
-            rw (o, eq-eqb x (getD ws p 0) (sym (there f .1))) (getD-set-same at p bits 0 (omega arith))
+            let t = there ws n x p f in
+            rw (eqb-true k p g, eq-eqb x (getD ws p 0) (sym (t .1))) (getD-set-same at p bits 0 (omega (arith, t .0)))
         by false g =
             let o = eqb-false k p g in
             rw (ne-eqb x (getD ws k 0) (λ z. o (only k i z))) (getD-set-other at p k bits 0 o)
@@ -110,4 +110,4 @@ module _ (ws : List ℕ) (n x p : ℕ) (h : n ≤ length ws) (q : Place ws n x p
     pub note-absent : (bits : ℕ) (at : List ℕ) → found ws n p x ≡ false → (k : ℕ) → k < n
         → getD at k 0 ≡ cond (eqb x (getD ws k 0)) bits (getD at k 0)
     note-absent bits at f k i =
-        rw (ne-eqb x (getD ws k 0) (λ z. let o = only k i z in absent f (rw (← o) i) (rw (← o) (sym z))))
+        rw (ne-eqb x (getD ws k 0) (λ z. let o = only k i z in absent ws n x p f (rw (← o) i) (rw (← o) (sym z))))

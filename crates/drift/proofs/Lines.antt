@@ -2,7 +2,7 @@
 -- Assumes nothing.
 use Prim.Native.Nat.{ℕ, _+_, _/_, _≤_, _<_}
 use mathlib.Core.Path.{_≡_, refl, sym, ap, _∙_}
-use mathlib.Core.List.{List, [], _∷_, _++_, map}
+use mathlib.Core.List.{List, [], _++_, map, map-append}
 use native.Mathlib.Nat.{zero-add}
 use native.Mathlib.Omega.{arith}
 use lib.Dec.{ltb}
@@ -21,10 +21,6 @@ use Rattle.drift.specs.Code.{swapped, key, keyOf, symbolAt, keysOf, last
 use Rattle.drift.proofs.Ordered.{each-sorted, each-append, each-at, sorted-append, map-sorted}
 use Rattle.drift.proofs.Sized.{Sized, key-back}
 use Rattle.drift.proofs.Looked.{keys-are, keys-sized, before-key, last-same, run-map}
-
-map-append : {A B : Type 0} (g : A → B) (xs ys : List A) → map g (xs ++ ys) ≡ map g xs ++ map g ys
-map-append g [] ys = refl
-map-append {B = B} g (x ∷ xs) ys = ap (λ (l : List B). g x ∷ l) (map-append g xs ys)
 
 unfoldable nobody : Symbol
 nobody = record { word = 0; len = 0 }

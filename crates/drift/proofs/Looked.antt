@@ -27,10 +27,10 @@ use Rattle.drift.proofs.Keys.{key-first}
 use Rattle.drift.proofs.Sized.{Sized, sized, same-by-key}
 
 -- ---- a row of a list that is all there
-pub row-there : (s : List ℕ) (w count i : ℕ) → Listed s w count → i < count → (w * i + w ≤ length s) × (w * i + w ≤ 32768)
+pub row-there : (s : List ℕ) (w count i : ℕ) → Listed s w count → i < count → w * i + 24 ≤ length s
 row-there s w count i l h =
     let last : w * (i + 1) ≤ w * count = mul-le-mul (le-refl w) (omega arith) in
-    (omega (arith, l .there), omega (arith, mul-le-mul (l .most) (l .few)))
+    omega (arith, l .least, l .there)
 
 -- ---- one row more: it takes its place, and says what it says
 module _ (w n : ℕ) (s : List ℕ) (i : ℕ) (h : i < n) where

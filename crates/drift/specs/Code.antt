@@ -79,8 +79,6 @@ found ws n p x = ltb p n && eqb (getD ws p 0) x
 -- a list of rows, all of them there
 pub record Listed (s : List ℕ) (w count : ℕ) : Type 0 where
   pub least : 24 ≤ w
-  pub most : w ≤ 32
-  pub few : count ≤ 1024
   pub there : w * count ≤ length s
 
 abbrev pub keysOf : List (Symbol × ℕ) → List ℕ

@@ -20,7 +20,7 @@ slice-write-values : tie.Need-slice-write-values
 slice-write-values c =
     let p = c .before .before in
     let s = p .before .before .before in
-    let l = there (now (s .args .words)) (s .args .n) (s .args .x) (p .place .result) (s .pre .0) (p .place .ensures) (sym (c .before .has .ensures) ∙ c .if1 .taken) .0 in
+    let l = there (now (s .args .words)) (s .args .n) (s .args .x) (p .place .result) (sym (c .before .has .ensures) ∙ c .if1 .taken) .0 in
     omega arith
 
 same-length : tie.Need-same-length

@@ -2,7 +2,6 @@
 use borrow.Author.Needs.{needs}
 use Rattle.drift.proofs.words.open.Statement.{statement}
 use Rattle.drift.proofs.words.open.Tie as tie
-use native.Mathlib.Omega.{arith}
 use denote.Ref.{now}
 use Rattle.drift.proofs.Opened.{open-part}
 

@@ -14,29 +14,29 @@ use lib.Seq.{length-take-le, getD-take}
 use Rattle.drift.specs.Code.{Rising, Within}
 use Rattle.drift.proofs.Ordered.{rise}
 
-module _ (ws : List ℕ) (n : ℕ) (h : n ≤ length ws) (r : Rising (take n ws)) where
-  pub rises : (i j : ℕ) → i < j → j < n → getD ws i 0 < getD ws j 0
+module _ (ks : List ℕ) (n : ℕ) (h : n ≤ length ks) (r : Rising (take n ks)) where
+  pub rises : (i j : ℕ) → i < j → j < n → getD ks i 0 < getD ks j 0
   rises i j l m =
       let k : i < n = omega arith in
-      rw (getD-take n ws i 0 k, getD-take n ws j 0 m) at (rise r i j 0 l (rw (length-take-le n ws h) m))
+      rw (getD-take n ks i 0 k, getD-take n ks j 0 m) at (rise r i j 0 l (rw (length-take-le n ks h) m))
 
-  level : (i j : ℕ) → i ≤ j → j < n → getD ws i 0 ≤ getD ws j 0
+  level : (i j : ℕ) → i ≤ j → j < n → getD ks i 0 ≤ getD ks j 0
   level i j l m = ⊎-elim (λ e. rw e (omega arith)) (λ k. let s = rises i j k m in omega arith) (eq-or-lt-of-le l)
 
   -- one test: of the two halves the second is left, or the first
-  module _ (x low size : ℕ) (p : 0 < size) (w : Within ws n x low (low + size)) where
+  module _ (x low size : ℕ) (p : 0 < size) (w : Within ks n x low (low + size)) where
     abbrev half : ℕ
     half = size - size / 2
 
     abbrev mid : ℕ
     mid = low + half - 1
 
-    pub halved : (b : ℕ) → b ≡ cond (ltb (getD ws mid 0) x) half 0 → Within ws n x (low + b) (low + b + size / 2)
-    halved b q = by (ltb (getD ws mid 0) x) refl q
+    pub halved : (b : ℕ) → b ≡ cond (ltb (getD ks mid 0) x) half 0 → Within ks n x (low + b) (low + b + size / 2)
+    halved b q = by (ltb (getD ks mid 0) x) refl q
       where
-        by : (v : Bool) → ltb (getD ws mid 0) x ≡ v → b ≡ cond v half 0 → Within ws n x (low + b) (low + b + size / 2)
+        by : (v : Bool) → ltb (getD ks mid 0) x ≡ v → b ≡ cond v half 0 → Within ks n x (low + b) (low + b + size / 2)
         by true e q =
-            let l = ltb-true (getD ws mid 0) x e in
+            let l = ltb-true (getD ks mid 0) x e in
             let m = w .most in
             record {
               least = omega arith;
@@ -45,7 +45,7 @@ module _ (ws : List ℕ) (n : ℕ) (h : n ≤ length ws) (r : Rising (take n ws)
               above = λ i k. w .above i (omega arith);
             }
         by false e q =
-            let l = ltb-false (getD ws mid 0) x e in
+            let l = ltb-false (getD ks mid 0) x e in
             let m = w .most in
             record {
               least = omega arith;

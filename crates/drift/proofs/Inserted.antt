@@ -24,11 +24,11 @@ shifted b =
     let m = b .most in
     record { least = omega arith; most = omega arith; below = λ i l. b .below (suc i) (omega arith); above = λ i l m. b .above (suc i) (omega arith) (omega arith) }
 
-new-in : (ws : List ℕ) (n x p : ℕ) → n ≤ length ws → Place ws n x p → (p < n → getD ws p 0 ≡ x → ⊥)
-    → inserted ltb x (take n ws) ≡ take p ws ++ (x ∷ take (n - p) (drop p ws))
+new-in : (ks : List ℕ) (n x p : ℕ) → n ≤ length ks → Place ks n x p → (p < n → getD ks p 0 ≡ x → ⊥)
+    → inserted ltb x (take n ks) ≡ take p ks ++ (x ∷ take (n - p) (drop p ks))
 unfolding inserted
-new-in ws zero x zero h b f = refl
-new-in ws zero x (suc p) h b f = let m = b .most in absurd (omega arith)
+new-in ks zero x zero h b f = refl
+new-in ks zero x (suc p) h b f = let m = b .most in absurd (omega arith)
 new-in [] (suc n) x p h b f = absurd (not-suc-le-zero h)
 new-in (z ∷ zs) (suc n) x zero h b f =
     let l : x ≤ z = b .above 0 (omega arith) (omega arith) in
@@ -39,55 +39,55 @@ new-in (z ∷ zs) (suc n) x (suc p) h b f =
     rw (le-ltb x z (omega arith), lt-ltb z x l, suc-sub-suc n p)
     (ap (λ (s : List ℕ). z ∷ s) (new-in zs n x p (le-of-suc-le-suc h) (shifted b) (λ m. f (omega arith))))
 
-old-in : (ws : List ℕ) (n x p : ℕ) → n ≤ length ws → Place ws n x p → p < n → getD ws p 0 ≡ x → inserted ltb x (take n ws) ≡ take n ws
+old-in : (ks : List ℕ) (n x p : ℕ) → n ≤ length ks → Place ks n x p → p < n → getD ks p 0 ≡ x → inserted ltb x (take n ks) ≡ take n ks
 unfolding inserted
-old-in ws zero x p h b l e = absurd (not-suc-le-zero l)
+old-in ks zero x p h b l e = absurd (not-suc-le-zero l)
 old-in [] (suc n) x p h b l e = absurd (not-suc-le-zero h)
 old-in (z ∷ zs) (suc n) x zero h b l e = rw (le-ltb x z (omega arith), le-ltb z x (omega arith))
 old-in (z ∷ zs) (suc n) x (suc p) h b l e =
     let k : z < x = b .below 0 (omega arith) in
     rw (le-ltb x z (omega arith), lt-ltb z x k) (ap (λ (s : List ℕ). z ∷ s) (old-in zs n x p (le-of-suc-le-suc h) (shifted b) (le-of-suc-le-suc l) e))
 
-module _ (ws : List ℕ) (n x p : ℕ) where
-  pub there : found ws n p x ≡ true → (p < n) × (getD ws p 0 ≡ x)
+module _ (ks : List ℕ) (n x p : ℕ) where
+  pub there : found ks n p x ≡ true → (p < n) × (getD ks p 0 ≡ x)
   there f =
-      (ltb-true p n (and-left (ltb p n) (eqb (getD ws p 0) x) f), eqb-true (getD ws p 0) x (and-right (ltb p n) (eqb (getD ws p 0) x) f))
+      (ltb-true p n (and-left (ltb p n) (eqb (getD ks p 0) x) f), eqb-true (getD ks p 0) x (and-right (ltb p n) (eqb (getD ks p 0) x) f))
 
-  absent : found ws n p x ≡ false → p < n → getD ws p 0 ≡ x → ⊥
+  absent : found ks n p x ≡ false → p < n → getD ks p 0 ≡ x → ⊥
   absent f k e =
-      let t : found ws n p x ≡ true = rw (lt-ltb p n k, eq-eqb (getD ws p 0) x e) in
+      let t : found ks n p x ≡ true = rw (lt-ltb p n k, eq-eqb (getD ks p 0) x e) in
       never (sym f ∙ t)
 
-module _ (ws : List ℕ) (n x p : ℕ) (h : n ≤ length ws) (q : Place ws n x p) where
+module _ (ks : List ℕ) (n x p : ℕ) (h : n ≤ length ks) (q : Place ks n x p) where
   -- ---- x stands there already, or is put there
-  pub insert-old : found ws n p x ≡ true → inserted ltb x (take n ws) ≡ take n ws
-  insert-old f = let t = there ws n x p f in old-in ws n x p h q (t .0) (t .1)
+  pub insert-old : found ks n p x ≡ true → inserted ltb x (take n ks) ≡ take n ks
+  insert-old f = let t = there ks n x p f in old-in ks n x p h q (t .0) (t .1)
 
-  pub insert-new : n < length ws → found ws n p x ≡ false → take (n + 1) (set (opened ws n p) p x) ≡ inserted ltb x (take n ws)
+  pub insert-new : n < length ks → found ks n p x ≡ false → take (n + 1) (set (opened ks n p) p x) ≡ inserted ltb x (take n ks)
   insert-new l f =
       let m = q .most in
-      let t : List ℕ = take (n - p) (drop p ws) in
-      let u : List ℕ = drop (suc n) ws in
-      let len : length (take p ws) ≡ p = length-take-le p ws (omega arith) in
-      let size-t : length t ≡ n - p = length-take-le (n - p) (drop p ws) (rw (length-drop p ws) (omega arith)) in
-      let one : opened ws n p ≡ take p ws ++ (getD ws p 0 ∷ (t ++ u)) =
-      ap (λ (s : List ℕ). s ++ (t ++ u)) (take-suc ws p 0 (omega arith)) ∙ append-snoc (take p ws) (getD ws p 0) (t ++ u) in
-      let two : set (opened ws n p) p x ≡ take p ws ++ (x ∷ (t ++ u)) =
-      ap (λ (s : List ℕ). set s p x) one ∙ set-at (take p ws) (getD ws p 0) (t ++ u) x p len in
-      let whole : length (take p ws ++ (x ∷ t)) ≡ n + 1 = length-append (take p ws) (x ∷ t) ∙ rw (len, size-t) (omega arith) in
-      ap (take (n + 1)) (two ∙ sym (append-assoc (take p ws) (x ∷ t) u)) ∙ take-at (take p ws ++ (x ∷ t)) u (n + 1) whole
-      ∙ sym (new-in ws n x p h q (absent ws n x p f))
+      let t : List ℕ = take (n - p) (drop p ks) in
+      let u : List ℕ = drop (suc n) ks in
+      let len : length (take p ks) ≡ p = length-take-le p ks (omega arith) in
+      let size-t : length t ≡ n - p = length-take-le (n - p) (drop p ks) (rw (length-drop p ks) (omega arith)) in
+      let one : opened ks n p ≡ take p ks ++ (getD ks p 0 ∷ (t ++ u)) =
+      ap (λ (s : List ℕ). s ++ (t ++ u)) (take-suc ks p 0 (omega arith)) ∙ append-snoc (take p ks) (getD ks p 0) (t ++ u) in
+      let two : set (opened ks n p) p x ≡ take p ks ++ (x ∷ (t ++ u)) =
+      ap (λ (s : List ℕ). set s p x) one ∙ set-at (take p ks) (getD ks p 0) (t ++ u) x p len in
+      let whole : length (take p ks ++ (x ∷ t)) ≡ n + 1 = length-append (take p ks) (x ∷ t) ∙ rw (len, size-t) (omega arith) in
+      ap (take (n + 1)) (two ∙ sym (append-assoc (take p ks) (x ∷ t) u)) ∙ take-at (take p ks ++ (x ∷ t)) u (n + 1) whole
+      ∙ sym (new-in ks n x p h q (absent ks n x p f))
 
   -- ---- what a row says of its symbol is noted at its place, and nowhere else
-  module _ (r : Rising (take n ws)) where
-    only : (k : ℕ) → k < n → x ≡ getD ws k 0 → k ≡ p
+  module _ (r : Rising (take n ks)) where
+    only : (k : ℕ) → k < n → x ≡ getD ks k 0 → k ≡ p
     only k i e = by (ltb k p) refl (ltb p k) refl
       where
         by : (u : Bool) → ltb k p ≡ u → (v : Bool) → ltb p k ≡ v → k ≡ p
         by true g v o = let s = q .below k (ltb-true k p g) in absurd (omega arith)
         by false g true o =
             let l = ltb-true p k o in
-            let s = rises ws n h r p k l i in
+            let s = rises ks n h r p k l i in
             let a = q .above p (omega arith) (omega arith) in
             absurd (omega arith)
         by false g false o =
@@ -95,19 +95,19 @@ module _ (ws : List ℕ) (n x p : ℕ) (h : n ≤ length ws) (q : Place ws n x p
             let m = ltb-false p k o in
             omega arith
 
-    pub note-found : (bits : ℕ) (at : List ℕ) → n ≤ length at → found ws n p x ≡ true → (k : ℕ) → k < n
-        → getD (set at p bits) k 0 ≡ cond (eqb x (getD ws k 0)) bits (getD at k 0)
+    pub note-found : (bits : ℕ) (at : List ℕ) → n ≤ length at → found ks n p x ≡ true → (k : ℕ) → k < n
+        → getD (set at p bits) k 0 ≡ cond (eqb x (getD ks k 0)) bits (getD at k 0)
     note-found bits at m f k i = by (eqb k p) refl
       where
-        by : (v : Bool) → eqb k p ≡ v → getD (set at p bits) k 0 ≡ cond (eqb x (getD ws k 0)) bits (getD at k 0)
+        by : (v : Bool) → eqb k p ≡ v → getD (set at p bits) k 0 ≡ cond (eqb x (getD ks k 0)) bits (getD at k 0)
         by true g =
-            let t = there ws n x p f in
-            rw (eqb-true k p g, eq-eqb x (getD ws p 0) (sym (t .1))) (getD-set-same at p bits 0 (omega (arith, t .0)))
+            let t = there ks n x p f in
+            rw (eqb-true k p g, eq-eqb x (getD ks p 0) (sym (t .1))) (getD-set-same at p bits 0 (omega (arith, t .0)))
         by false g =
             let o = eqb-false k p g in
-            rw (ne-eqb x (getD ws k 0) (λ z. o (only k i z))) (getD-set-other at p k bits 0 o)
+            rw (ne-eqb x (getD ks k 0) (λ z. o (only k i z))) (getD-set-other at p k bits 0 o)
 
-    pub note-absent : (bits : ℕ) (at : List ℕ) → found ws n p x ≡ false → (k : ℕ) → k < n
-        → getD at k 0 ≡ cond (eqb x (getD ws k 0)) bits (getD at k 0)
+    pub note-absent : (bits : ℕ) (at : List ℕ) → found ks n p x ≡ false → (k : ℕ) → k < n
+        → getD at k 0 ≡ cond (eqb x (getD ks k 0)) bits (getD at k 0)
     note-absent bits at f k i =
-        rw (ne-eqb x (getD ws k 0) (λ z. let o = only k i z in absent ws n x p f (rw (← o) i) (rw (← o) (sym z))))
+        rw (ne-eqb x (getD ks k 0) (λ z. let o = only k i z in absent ks n x p f (rw (← o) i) (rw (← o) (sym z))))

@@ -19,12 +19,12 @@ swap-lt (suc n) x =
     let l : x % 256 ≤ 255 = omega arith in
     rw pow-succ' (omega (arith, mul-le-mul-right (256 ^ n) l, swap-lt n (x / 256)))
 
--- the leading byte decides, then what is behind it
+-- the leading byte decides, then what comes after it
 lead : (a b s t m : ℕ) → a < b → s < m → a * m + s < b * m + t
 lead a b s t m h l = omega (arith, mul-le-mul-right m h)
 
-behind : (a b s t m : ℕ) → a ≡ b → ltb s t ≡ ltb (a * m + s) (b * m + t)
-behind a b s t m e = by (ltb s t) refl
+after-lead : (a b s t m : ℕ) → a ≡ b → ltb s t ≡ ltb (a * m + s) (b * m + t)
+after-lead a b s t m e = by (ltb s t) refl
   where
     k : a * m ≡ b * m
     k = ap (λ (i : ℕ). i * m) e
@@ -46,7 +46,7 @@ first-byte a b s t m p q = by (ltb a b) refl (ltb b a) refl
         let h = ltb-false a b e in
         let l = ltb-false b a f in
         let k : a ≡ b = omega arith in
-        rw (eq-eqb a b k) (behind a b s t m k)
+        rw (eq-eqb a b k) (after-lead a b s t m k)
 
 pub key-first : (n x y : ℕ) → bytesBefore (bytesOf n x) (bytesOf n y) ≡ ltb (swapped n x) (swapped n y)
 unfolding bytesBefore bytesOf swapped

@@ -41,21 +41,21 @@ module _ (rp rt rq : List (Symbol × ℕ)) (ps : Each (λ (r : Symbol × ℕ). S
       each-sorted before Sized [] (keys (valued (toZ w64) rp) ++ keys (valued (ofBits binary64) rt)) none
       (each-append Sized (keys (valued (toZ w64) rp)) (keys (valued (ofBits binary64) rt)) (keys-sized (toZ w64) rp ps) (keys-sized (ofBits binary64) rt ts))
 
-  module _ (ws us bs cs : List ℕ) (n : ℕ) (m : ℕ) (h : n ≤ length ws) (o : n ≤ m)
-      (w : take n ws ≡ sortedWith ltb (sortedWith ltb [] (keysOf rp)) (keysOf rt))
-      (a : Noted ws n rp (replicate m 0) us) (b : Noted ws n rt (replicate m 0) bs) (c : Noted ws n rq (replicate m 0) cs) where
+  module _ (ks us bs cs : List ℕ) (n : ℕ) (m : ℕ) (h : n ≤ length ks) (o : n ≤ m)
+      (w : take n ks ≡ sortedWith ltb (sortedWith ltb [] (keysOf rp)) (keysOf rt))
+      (a : Noted ks n rp (replicate m 0) us) (b : Noted ks n rt (replicate m 0) bs) (c : Noted ks n rq (replicate m 0) cs) where
     size : length all ≡ n
-    size = sym (length-map all keyOf) ∙ ap length (all-keys ∙ sym w) ∙ length-take-le n ws h
+    size = sym (length-map all keyOf) ∙ ap length (all-keys ∙ sym w) ∙ length-take-le n ks h
 
-    key-at : (k : ℕ) → k < n → getD ws k 0 ≡ keyOf (getD all k nobody)
+    key-at : (k : ℕ) → k < n → getD ks k 0 ≡ keyOf (getD all k nobody)
     unfolding nobody swapped
-    key-at k l = sym (getD-take n ws k 0 l) ∙ ap (λ (t : List ℕ). getD t k 0) (w ∙ sym all-keys) ∙ List·getD-map keyOf all k nobody
+    key-at k l = sym (getD-take n ks k 0 l) ∙ ap (λ (t : List ℕ). getD t k 0) (w ∙ sym all-keys) ∙ List·getD-map keyOf all k nobody
 
-    noted : (rs : List (Symbol × ℕ)) (vs : List ℕ) → Noted ws n rs (replicate m 0) vs → (k : ℕ) → k < n
+    noted : (rs : List (Symbol × ℕ)) (vs : List ℕ) → Noted ks n rs (replicate m 0) vs → (k : ℕ) → k < n
         → getD vs k 0 ≡ lastBits 0 (keyOf (getD all k nobody)) rs
     noted rs vs t k l = t .each k l ∙ rw (getD-replicate {A = ℕ} m k 0 0 (omega arith), key-at k l)
 
-    one : (k : ℕ) → k < n → lineAt ws us bs cs k ≡ lineOf (valued (toZ w64) rp) (valued (ofBits binary64) rt) (valued (toZ w64) rq) (getD all k nobody)
+    one : (k : ℕ) → k < n → lineAt ks us bs cs k ≡ lineOf (valued (toZ w64) rp) (valued (ofBits binary64) rt) (valued (toZ w64) rq) (getD all k nobody)
     one k l =
         let y = getD all k nobody in
         let z = each-at Sized all-sized k nobody (rw size l) in
@@ -67,12 +67,12 @@ module _ (rp rt rq : List (Symbol × ℕ)) (ps : Each (λ (r : Symbol × ℕ). S
           price = (ap (toZ w64) (noted rq cs c k l) ∙ last-same (toZ w64) y z 0 rq qs) i;
         }
 
-    pub lines-are : run (lineAt ws us bs cs) 0 n ≡ linesOf (valued (toZ w64) rp) (valued (ofBits binary64) rt) (valued (toZ w64) rq)
+    pub lines-are : run (lineAt ks us bs cs) 0 n ≡ linesOf (valued (toZ w64) rp) (valued (ofBits binary64) rt) (valued (toZ w64) rq)
     unfolding linesOf
     lines-are =
-        ap (run (lineAt ws us bs cs) 0) (sym size)
-        ∙ run-map (lineAt ws us bs cs) (lineOf (valued (toZ w64) rp) (valued (ofBits binary64) rt) (valued (toZ w64) rq)) nobody all 0
-        (λ i l. ap (lineAt ws us bs cs) (zero-add i) ∙ one i (rw (← size) l))
+        ap (run (lineAt ks us bs cs) 0) (sym size)
+        ∙ run-map (lineAt ks us bs cs) (lineOf (valued (toZ w64) rp) (valued (ofBits binary64) rt) (valued (toZ w64) rq)) nobody all 0
+        (λ i l. ap (lineAt ks us bs cs) (zero-add i) ∙ one i (rw (← size) l))
 
 -- ---- arrays of m zeros have room
 pub blank : (m : ℕ) (positions targets : List ℕ) → length positions / 32 + length targets / 24 ≤ m

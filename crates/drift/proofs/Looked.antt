@@ -39,11 +39,11 @@ module _ (w n : ℕ) (s : List ℕ) (i : ℕ) (h : i < n) where
   unfolding sortedWith
   gathered-step x zs after e f = rw (f, e, rest-next rowOf w n s i h)
 
-  pub noted-step : (ws : List ℕ) (m x bits : ℕ) (at after : List ℕ) → x ≡ key (le 8 (drop (w * i) s)) → bits ≡ le 8 (drop 16 (drop (w * i) s))
-      → Marked ws m x bits at after → (k : ℕ) → k < m
-      → lastBits (getD after k 0) (getD ws k 0) (rest rowOf w n s (i + 1)) ≡ lastBits (getD at k 0) (getD ws k 0) (rest rowOf w n s i)
+  pub noted-step : (ks : List ℕ) (m x bits : ℕ) (at after : List ℕ) → x ≡ key (le 8 (drop (w * i) s)) → bits ≡ le 8 (drop 16 (drop (w * i) s))
+      → Marked ks m x bits at after → (k : ℕ) → k < m
+      → lastBits (getD after k 0) (getD ks k 0) (rest rowOf w n s (i + 1)) ≡ lastBits (getD at k 0) (getD ks k 0) (rest rowOf w n s i)
   unfolding lastBits
-  noted-step ws m x bits at after e f t k l = rw (t .each k l, e, f, rest-next rowOf w n s i h)
+  noted-step ks m x bits at after e f t k l = rw (t .each k l, e, f, rest-next rowOf w n s i h)
 
 -- ---- the rows of a sound list have symbols whose fields are right
 rows-sized : (w n : ℕ) (s : List ℕ) → Bytes s → every wideFieldOk w n s ≡ true → Each (λ (r : Symbol × ℕ). Sized (r .0)) (records rowOf w n s)

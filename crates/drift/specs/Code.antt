@@ -62,19 +62,19 @@ pub data Rising : List ℕ → Type 0 where
   more : {x : ℕ} {xs : List ℕ} → Over x xs → Rising xs → Rising (x ∷ xs)
 
 -- where a search for x among the first n stands: those before `low` are below x, and those from `high` on are not
-pub record Within (ws : List ℕ) (n x low high : ℕ) : Type 0 where
+pub record Within (ks : List ℕ) (n x low high : ℕ) : Type 0 where
   pub least : low ≤ high
   pub most : high ≤ n
-  pub below : (i : ℕ) → i < low → getD ws i 0 < x
-  pub above : (i : ℕ) → high ≤ i → i < n → x ≤ getD ws i 0
+  pub below : (i : ℕ) → i < low → getD ks i 0 < x
+  pub above : (i : ℕ) → high ≤ i → i < n → x ≤ getD ks i 0
 
 -- the place of x among the first n
 abbrev pub Place : List ℕ → ℕ → ℕ → ℕ → Type 0
-Place ws n x p = Within ws n x p p
+Place ks n x p = Within ks n x p p
 
 -- whether it stands there
 abbrev pub found : List ℕ → ℕ → ℕ → ℕ → Bool
-found ws n p x = ltb p n && eqb (getD ws p 0) x
+found ks n p x = ltb p n && eqb (getD ks p 0) x
 
 -- a list of rows, all of them there
 pub record Listed (s : List ℕ) (w count : ℕ) : Type 0 where
@@ -84,9 +84,9 @@ pub record Listed (s : List ℕ) (w count : ℕ) : Type 0 where
 abbrev pub keysOf : List (Symbol × ℕ) → List ℕ
 keysOf rows = map (λ (r : Symbol × ℕ). keyOf (r .0)) rows
 
-pub record Gathered (ws : List ℕ) (n : ℕ) (rows : List (Symbol × ℕ)) (after : List ℕ) (r : ℕ) : Type 0 where
+pub record Gathered (ks : List ℕ) (n : ℕ) (rows : List (Symbol × ℕ)) (after : List ℕ) (r : ℕ) : Type 0 where
   pub most : r ≤ n + length rows
-  pub sorted : take r after ≡ sortedWith ltb (take n ws) (keysOf rows)
+  pub sorted : take r after ≡ sortedWith ltb (take n ks) (keysOf rows)
   pub rising : Rising (take r after)
 
 -- ---- what was last said of the symbol with the key x
@@ -94,17 +94,17 @@ unfoldable pub lastBits : ℕ → ℕ → List (Symbol × ℕ) → ℕ
 lastBits b x [] = b
 lastBits b x (r ∷ rs) = lastBits (cond (eqb (keyOf (r .0)) x) (r .1) b) x rs
 
-pub record Marked (ws : List ℕ) (n x bits : ℕ) (at after : List ℕ) : Type 0 where
-  pub each : (k : ℕ) → k < n → getD after k 0 ≡ cond (eqb x (getD ws k 0)) bits (getD at k 0)
+pub record Marked (ks : List ℕ) (n x bits : ℕ) (at after : List ℕ) : Type 0 where
+  pub each : (k : ℕ) → k < n → getD after k 0 ≡ cond (eqb x (getD ks k 0)) bits (getD at k 0)
 
-pub record Noted (ws : List ℕ) (n : ℕ) (rows : List (Symbol × ℕ)) (at after : List ℕ) : Type 0 where
-  pub each : (k : ℕ) → k < n → getD after k 0 ≡ lastBits (getD at k 0) (getD ws k 0) rows
+pub record Noted (ks : List ℕ) (n : ℕ) (rows : List (Symbol × ℕ)) (at after : List ℕ) : Type 0 where
+  pub each : (k : ℕ) → k < n → getD after k 0 ≡ lastBits (getD at k 0) (getD ks k 0) rows
 
 -- ---- the lines in the arrays
 abbrev pub lineAt : List ℕ → List ℕ → List ℕ → List ℕ → ℕ → Line
-lineAt ws qs ts ps k =
+lineAt ks qs ts ps k =
     record {
-      symbol = symbolAt (key (getD ws k 0));
+      symbol = symbolAt (key (getD ks k 0));
       quantity = toZ w64 (getD qs k 0);
       weight = ofBits binary64 (getD ts k 0);
       price = toZ w64 (getD ps k 0);
@@ -116,7 +116,7 @@ run f k zero = []
 run f k (suc n) = f k ∷ run f (k + 1) n
 
 abbrev pub linesAt : List ℕ → List ℕ → List ℕ → List ℕ → ℕ → List Line
-linesAt ws qs ts ps n = run (lineAt ws qs ts ps) 0 n
+linesAt ks qs ts ps n = run (lineAt ks qs ts ps) 0 n
 
 -- ---- what the code that fills the arrays and reads them is given: lists that are sound, arrays that are zero and have room for a symbol of each row
 -- held or targeted, n lines
@@ -125,15 +125,15 @@ pub record SoundLists (positions targets prices : List ℕ) : Type 0 where
   pub wanted : rowsLayout 24 targets ≡ Sound
   pub priced : rowsLayout 24 prices ≡ Sound
 
-pub record Blank (positions targets ws qs ts ps : List ℕ) : Type 0 where
-  pub room : length positions / 32 + length targets / 24 ≤ length ws
-  pub quantities : qs ≡ replicate (length ws) 0
-  pub weights : ts ≡ replicate (length ws) 0
-  pub costs : ps ≡ replicate (length ws) 0
+pub record Blank (positions targets ks qs ts ps : List ℕ) : Type 0 where
+  pub room : length positions / 32 + length targets / 24 ≤ length ks
+  pub quantities : qs ≡ replicate (length ks) 0
+  pub weights : ts ≡ replicate (length ks) 0
+  pub costs : ps ≡ replicate (length ks) 0
 
-pub record Filled (n : ℕ) (ws qs ts ps : List ℕ) : Type 0 where
+pub record Filled (n : ℕ) (ks qs ts ps : List ℕ) : Type 0 where
   pub most : n ≤ 2048
-  pub words : n ≤ length ws
+  pub keys : n ≤ length ks
   pub quantities : n ≤ length qs
   pub weights : n ≤ length ts
   pub costs : n ≤ length ps

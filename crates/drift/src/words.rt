@@ -20,7 +20,7 @@ fn four(x: u64) -> u64
         + (x / 0x100 % 256 * 0x1_0000 + (x / 0x1_0000 % 256 * 0x100 + x / 0x100_0000 % 256))
 }
 
-// The key of the symbol that has the number x: the bytes the other way round. Of a key it is the number.
+// The key of the symbol that has the number x: its bytes the other way round. A key's key is the number again.
 pub fn key_of(x: u64) -> u64
     ensures { λ r. ⌜ r ≡ key x ⌝ }
 {
@@ -34,7 +34,8 @@ pub fn len_of(x: u64) -> u64
     (71 - u64::leading_zeros(x) as u64) / 8
 }
 
-// `half` where `below` holds, else 0. A branch in place of the shift is guessed wrong every other time, and a search takes twice as long.
+// `half` where `below` holds, else 0. Of an `if` or a product the compiler makes a branch, which a processor guesses wrong every other time: `lines` of 1,024
+// rows then takes more than twice as long.
 fn step(half: usize, below: bool) -> usize
     requires { ⌜ half < 2 ^ 63 ⌝ }
     ensures { λ r. ⌜ r ≡ cond below half 0 ⌝ }
@@ -43,59 +44,59 @@ fn step(half: usize, below: bool) -> usize
 }
 
 // Where x stands, or would stand, among the first n.
-fn place(words: &[u64], n: usize, x: u64) -> usize
-    requires { ⌜ n ≤ length (now words) ⌝ ∗ ⌜ Rising (take n (now words)) ⌝ }
-    ensures { λ r. ⌜ Place (now (words .entry)) n x r ⌝ }
+fn place(keys: &[u64], n: usize, x: u64) -> usize
+    requires { ⌜ n ≤ length (now keys) ⌝ ∗ ⌜ Rising (take n (now keys)) ⌝ }
+    ensures { λ r. ⌜ Place (now (keys .entry)) n x r ⌝ }
 {
     let mut low = 0;
     let mut size = n;
     while 0 < size {
         let half = size - size / 2;
-        low += step(half, words[low + half - 1] < x);
+        low += step(half, keys[low + half - 1] < x);
         size = size / 2;
     }
     low
 }
 
 // Whether x stands at p.
-fn has(words: &[u64], n: usize, p: usize, x: u64) -> bool
-    requires { ⌜ n ≤ length (now words) ⌝ }
-    ensures { λ r. ⌜ r ≡ found (now (words .entry)) n p x ⌝ }
+fn has(keys: &[u64], n: usize, p: usize, x: u64) -> bool
+    requires { ⌜ n ≤ length (now keys) ⌝ }
+    ensures { λ r. ⌜ r ≡ found (now (keys .entry)) n p x ⌝ }
 {
-    if p < n { words[p] == x } else { false }
+    if p < n { keys[p] == x } else { false }
 }
 
 // Moves the first n elements one place up. It has no other start, so that it is compiled to one move of memory.
-fn move_up(words: &mut [u64], n: usize)
-    requires { ⌜ n < length (now words) ⌝ }
-    ensures { λ _. ⌜ now (words .exit) ≡ take 1 (now (words .entry)) ++ (take n (now (words .entry)) ++ drop (suc n) (now (words .entry))) ⌝ }
+fn move_up(keys: &mut [u64], n: usize)
+    requires { ⌜ n < length (now keys) ⌝ }
+    ensures { λ _. ⌜ now (keys .exit) ≡ take 1 (now (keys .entry)) ++ (take n (now (keys .entry)) ++ drop (suc n) (now (keys .entry))) ⌝ }
 {
     let mut j = n;
     while 0 < j {
-        words[j] = words[j - 1];
+        keys[j] = keys[j - 1];
         j -= 1;
     }
 }
 
 // Moves the elements from p up to n, excluding it, one place up.
-fn open(words: &mut [u64], p: usize, n: usize)
-    requires { ⌜ p ≤ n ⌝ ∗ ⌜ n < length (now words) ⌝ }
-    ensures { λ _. ⌜ now (words .exit) ≡ take (suc p) (now (words .entry)) ++ (take (n - p) (drop p (now (words .entry))) ++ drop (suc n) (now (words .entry))) ⌝ }
+fn open(keys: &mut [u64], p: usize, n: usize)
+    requires { ⌜ p ≤ n ⌝ ∗ ⌜ n < length (now keys) ⌝ }
+    ensures { λ _. ⌜ now (keys .exit) ≡ take (suc p) (now (keys .entry)) ++ (take (n - p) (drop p (now (keys .entry))) ++ drop (suc n) (now (keys .entry))) ⌝ }
 {
-    move_up(&mut words[p..], n - p);
+    move_up(&mut keys[p..], n - p);
 }
 
 // x put in its place among the first n; the answer is how many are taken then.
-fn insert(words: &mut [u64], n: usize, x: u64) -> usize
-    requires { ⌜ n < length (now words) ⌝ ∗ ⌜ Rising (take n (now words)) ⌝ }
-    ensures { λ r. ⌜ (r ≤ n + 1) × (take r (now (words .exit)) ≡ inserted ltb x (take n (now (words .entry)))) ⌝ }
+fn insert(keys: &mut [u64], n: usize, x: u64) -> usize
+    requires { ⌜ n < length (now keys) ⌝ ∗ ⌜ Rising (take n (now keys)) ⌝ }
+    ensures { λ r. ⌜ (r ≤ n + 1) × (take r (now (keys .exit)) ≡ inserted ltb x (take n (now (keys .entry)))) ⌝ }
 {
-    let p = place(words, n, x);
-    if has(words, n, p, x) {
+    let p = place(keys, n, x);
+    if has(keys, n, p, x) {
         return n;
     }
-    open(words, p, n);
-    words[p] = x;
+    open(keys, p, n);
+    keys[p] = x;
     n + 1
 }
 
@@ -116,40 +117,40 @@ fn bits_in(list: &[u8], width: usize, count: usize, i: usize) -> u64
 }
 
 // The symbol of each row put in its place.
-fn gather(list: &[u8], width: usize, count: usize, words: &mut [u64], n: usize) -> usize
-    requires { ⌜ Listed (now list) width count ⌝ ∗ ⌜ n + count ≤ length (now words) ⌝ ∗ ⌜ Rising (take n (now words)) ⌝ }
-    ensures { λ r. ⌜ Gathered (now (words .entry)) n (records rowOf width count (now (list .entry))) (now (words .exit)) r ⌝ }
+fn gather(list: &[u8], width: usize, count: usize, keys: &mut [u64], n: usize) -> usize
+    requires { ⌜ Listed (now list) width count ⌝ ∗ ⌜ n + count ≤ length (now keys) ⌝ ∗ ⌜ Rising (take n (now keys)) ⌝ }
+    ensures { λ r. ⌜ Gathered (now (keys .entry)) n (records rowOf width count (now (list .entry))) (now (keys .exit)) r ⌝ }
 {
     let mut taken = n;
     let mut i = 0;
     while i < count {
-        taken = insert(words, taken, key_in(list, width, count, i));
+        taken = insert(keys, taken, key_in(list, width, count, i));
         i += 1;
     }
     taken
 }
 
 // What is said of x, where it is among the first n.
-fn note(words: &[u64], n: usize, x: u64, bits: u64, values: &mut [u64])
-    requires { ⌜ n ≤ length (now words) ⌝ ∗ ⌜ n ≤ length (now values) ⌝ ∗ ⌜ Rising (take n (now words)) ⌝ }
-    ensures { λ _. ⌜ Marked (now (words .entry)) n x bits (now (values .entry)) (now (values .exit)) ⌝ }
+fn note(keys: &[u64], n: usize, x: u64, bits: u64, values: &mut [u64])
+    requires { ⌜ n ≤ length (now keys) ⌝ ∗ ⌜ n ≤ length (now values) ⌝ ∗ ⌜ Rising (take n (now keys)) ⌝ }
+    ensures { λ _. ⌜ Marked (now (keys .entry)) n x bits (now (values .entry)) (now (values .exit)) ⌝ }
 {
-    let p = place(words, n, x);
-    if has(words, n, p, x) {
+    let p = place(keys, n, x);
+    if has(keys, n, p, x) {
         values[p] = bits;
     }
 }
 
 // What is last said of each of the first n symbols.
-fn last_values(list: &[u8], width: usize, count: usize, words: &[u64], n: usize, values: &mut [u64])
-    requires { ⌜ Listed (now list) width count ⌝ ∗ ⌜ n ≤ length (now words) ⌝ ∗ ⌜ n ≤ length (now values) ⌝ ∗ ⌜ Rising (take n (now words)) ⌝ }
-    ensures { λ _. ⌜ Noted (now (words .entry)) n (records rowOf width count (now (list .entry))) (now (values .entry)) (now (values .exit)) ⌝ }
+fn last_values(list: &[u8], width: usize, count: usize, keys: &[u64], n: usize, values: &mut [u64])
+    requires { ⌜ Listed (now list) width count ⌝ ∗ ⌜ n ≤ length (now keys) ⌝ ∗ ⌜ n ≤ length (now values) ⌝ ∗ ⌜ Rising (take n (now keys)) ⌝ }
+    ensures { λ _. ⌜ Noted (now (keys .entry)) n (records rowOf width count (now (list .entry))) (now (values .entry)) (now (values .exit)) ⌝ }
 {
     let mut i = 0;
     while i < count {
         let x = key_in(list, width, count, i);
         let bits = bits_in(list, width, count, i);
-        note(words, n, x, bits, values);
+        note(keys, n, x, bits, values);
         i += 1;
     }
 }
@@ -159,20 +160,20 @@ pub fn lines(
     positions: &[u8],
     targets: &[u8],
     prices: &[u8],
-    words: &mut [u64],
+    keys: &mut [u64],
     quantities: &mut [u64],
     weights: &mut [u64],
     costs: &mut [u64],
 ) -> usize
-    requires { ⌜ SoundLists (now positions) (now targets) (now prices) ⌝ ∗ ⌜ Blank (now positions) (now targets) (now words) (now quantities) (now weights) (now costs) ⌝ }
-    ensures { λ r. ⌜ Filled r (now (words .exit)) (now (quantities .exit)) (now (weights .exit)) (now (costs .exit)) × (linesAt (now (words .exit)) (now (quantities .exit)) (now (weights .exit)) (now (costs .exit)) r ≡ linesOf (heldIn (now (positions .entry))) (targetsIn (now (targets .entry))) (pricesIn (now (prices .entry)))) ⌝ }
+    requires { ⌜ SoundLists (now positions) (now targets) (now prices) ⌝ ∗ ⌜ Blank (now positions) (now targets) (now keys) (now quantities) (now weights) (now costs) ⌝ }
+    ensures { λ r. ⌜ Filled r (now (keys .exit)) (now (quantities .exit)) (now (weights .exit)) (now (costs .exit)) × (linesAt (now (keys .exit)) (now (quantities .exit)) (now (weights .exit)) (now (costs .exit)) r ≡ linesOf (heldIn (now (positions .entry))) (targetsIn (now (targets .entry))) (pricesIn (now (prices .entry)))) ⌝ }
 {
     let held = positions.len() / 32;
     let wanted = targets.len() / 24;
-    let some = gather(positions, 32, held, words, 0);
-    let n = gather(targets, 24, wanted, words, some);
-    last_values(positions, 32, held, words, n, quantities);
-    last_values(targets, 24, wanted, words, n, weights);
-    last_values(prices, 24, prices.len() / 24, words, n, costs);
+    let some = gather(positions, 32, held, keys, 0);
+    let n = gather(targets, 24, wanted, keys, some);
+    last_values(positions, 32, held, keys, n, quantities);
+    last_values(targets, 24, wanted, keys, n, weights);
+    last_values(prices, 24, prices.len() / 24, keys, n, costs);
     n
 }

@@ -1,4 +1,4 @@
--- `entry::put_entry`: the two halves, one behind the other; nothing past the end.
+-- `entry::put_entry`: the two halves, one after the other; nothing past the end.
 use borrow.Author.Needs.{needs}
 use Rattle.drift.proofs.entry.put_entry.Statement.{statement}
 use Rattle.drift.proofs.entry.put_entry.Tie as tie

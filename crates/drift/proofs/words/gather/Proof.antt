@@ -18,12 +18,12 @@ use Rattle.drift.proofs.Ordered.{rising-inserted}
 use Rattle.drift.proofs.Looked.{gathered-step}
 
 abbrev Inv-loop : tie.InvT-loop
-Inv-loop list width count words₀ n taken₀ i₀ words taken i =
-    (i ≤ count) × (taken ≤ n + i) × (length words ≡ length words₀) × Rising (take taken words)
-    × (sortedWith ltb (take taken words) (keysOf (rest rowOf width count list i)) ≡ sortedWith ltb (take n words₀) (keysOf (records rowOf width count list)))
+Inv-loop list width count keys₀ n taken₀ i₀ keys taken i =
+    (i ≤ count) × (taken ≤ n + i) × (length keys ≡ length keys₀) × Rising (take taken keys)
+    × (sortedWith ltb (take taken keys) (keysOf (rest rowOf width count list i)) ≡ sortedWith ltb (take n keys₀) (keysOf (records rowOf width count list)))
 
 abbrev μ-loop : tie.MeasureT-loop
-μ-loop list width count words₀ n taken₀ i₀ words taken i = count - i
+μ-loop list width count keys₀ n taken₀ i₀ keys taken i = count - i
 
 loop-holds : tie.Need-loop-holds Inv-loop μ-loop
 loop-holds c =
@@ -52,8 +52,8 @@ loop-again c =
       omega arith,
       omega (arith, m .insert .ensures .0),
       m .insert .kept .0 ∙ l .inv .2,
-      subst Rising (sym (m .insert .ensures .1)) (rising-inserted (x .result) (take (l .taken) (l .words)) (l .inv .3)),
-      gathered-step (a .width) (a .count) (now (a .list)) (l .i) (t .loop-test .taken) (x .result) (take (l .taken) (l .words)) _ (x .ensures) (m .insert .ensures .1) ∙ l .inv .4,
+      subst Rising (sym (m .insert .ensures .1)) (rising-inserted (x .result) (take (l .taken) (l .keys)) (l .inv .3)),
+      gathered-step (a .width) (a .count) (now (a .list)) (l .i) (t .loop-test .taken) (x .result) (take (l .taken) (l .keys)) _ (x .ensures) (m .insert .ensures .1) ∙ l .inv .4,
     )
 
 same-length : tie.Need-same-length Inv-loop μ-loop

@@ -13,12 +13,12 @@ use Rattle.drift.specs.Code.{lastBits}
 use Rattle.drift.proofs.Looked.{noted-step}
 
 abbrev Inv-loop : tie.InvT-loop
-Inv-loop list width count words n values₀ i₀ values i =
+Inv-loop list width count keys n values₀ i₀ values i =
     (length values ≡ length values₀)
-    × ((k : ℕ) → k < n → lastBits (getD values k 0) (getD words k 0) (rest rowOf width count list i) ≡ lastBits (getD values₀ k 0) (getD words k 0) (records rowOf width count list))
+    × ((k : ℕ) → k < n → lastBits (getD values k 0) (getD keys k 0) (rest rowOf width count list i) ≡ lastBits (getD values₀ k 0) (getD keys k 0) (records rowOf width count list))
 
 abbrev μ-loop : tie.MeasureT-loop
-μ-loop list width count words n values₀ i₀ values i = count - i
+μ-loop list width count keys n values₀ i₀ values i = count - i
 
 loop-holds : tie.Need-loop-holds Inv-loop μ-loop
 loop-holds c =
@@ -49,7 +49,7 @@ loop-again c =
     let l = t .before .loop in
     let a = t .before .before .before .before .before .args in (
       m .note .kept .1 .1 .1 .1 .0 ∙ l .inv .0,
-      λ k h. noted-step (a .width) (a .count) (now (a .list)) (l .i) (t .loop-test .taken) (now (a .words)) (a .n) (x .key-in .result) (b .bits-in .result) (l .values) _ (x .key-in .ensures) (b .bits-in .ensures) (m .note .ensures) k h ∙ l .inv .1 k h,
+      λ k h. noted-step (a .width) (a .count) (now (a .list)) (l .i) (t .loop-test .taken) (now (a .keys)) (a .n) (x .key-in .result) (b .bits-in .result) (l .values) _ (x .key-in .ensures) (b .bits-in .ensures) (m .note .ensures) k h ∙ l .inv .1 k h,
     )
 
 same-length : tie.Need-same-length Inv-loop μ-loop

@@ -64,14 +64,14 @@ all-most k =
     omega (arith, some-most (k .before .before .before .before), k .gather2 .ensures .most, length-records rowOf 24 (length t / 24) t)
 
 -- the arrays have room for them
-all-room : (k : tie.After-gather2) → k .gather2 .result ≤ length (now (begun (known k) .args .words))
+all-room : (k : tie.After-gather2) → k .gather2 .result ≤ length (now (begun (known k) .args .keys))
 all-room k = omega (arith, all-most k, begun (known k) .pre .1 .room)
 
 word-room : (k : tie.After-gather2) → k .gather2 .result ≤ length (k .gather2 .last .1 .1 .1 .0)
 word-room k = omega (arith, all-room k, k .gather2 .kept .1 .1 .1 .0, k .before .before .before .before .gather .kept .1 .1 .1 .0)
 
-value-room : (k : tie.After-gather2) (l : List ℕ) → l ≡ replicate (length (now (begun (known k) .args .words))) 0 → k .gather2 .result ≤ length l
-value-room k l e = rw (e, length-replicate {A = ℕ} (length (now (begun (known k) .args .words))) 0) (all-room k)
+value-room : (k : tie.After-gather2) (l : List ℕ) → l ≡ replicate (length (now (begun (known k) .args .keys))) 0 → k .gather2 .result ≤ length l
+value-room k l e = rw (e, length-replicate {A = ℕ} (length (now (begun (known k) .args .keys))) 0) (all-room k)
 
 gather-requires : tie.Need-gather-requires
 gather-requires c κs =
@@ -127,22 +127,22 @@ returns c =
     let rt = rowsIn 24 (now (a .targets)) in
     let rq = rowsIn 24 (now (a .prices)) in
     let n = k .gather2 .result in
-    let ws = k .gather2 .last .1 .1 .1 .0 in
+    let ks = k .gather2 .last .1 .1 .1 .0 in
     let us = quantity .last .1 .1 .1 .1 .1 .0 in
     let ts = weight .last .1 .1 .1 .1 .1 .0 in
     let cs = cost .last .1 .1 .1 .1 .1 .0 in
     let sorted = k .gather2 .ensures .sorted ∙ ap (λ (z : List ℕ). sortedWith ltb z (keysOf rt)) (k .before .before .before .before .gather .ensures .sorted) in (
       record {
         most = omega (arith, all-most k, held-rows s .0, target-rows s .0);
-        words = word-room k;
+        keys = word-room k;
         quantities = omega (arith, value-room k (now (a .quantities)) (b .quantities), quantity .kept .1 .1 .1 .1 .1 .0);
         weights = omega (arith, value-room k (now (a .weights)) (b .weights), weight .kept .1 .1 .1 .1 .1 .0);
         costs = omega (arith, value-room k (now (a .costs)) (b .costs), cost .kept .1 .1 .1 .1 .1 .0);
       },
-      lines-are rp rt rq (held-rows s .1) (target-rows s .1) (price-rows s .1) ws us ts cs n (length (now (a .words))) (word-room k) (all-room k) sorted
-          (subst (λ (z : List ℕ). Noted ws n rp z us) (b .quantities) (quantity .ensures))
-          (subst (λ (z : List ℕ). Noted ws n rt z ts) (b .weights) (weight .ensures))
-          (subst (λ (z : List ℕ). Noted ws n rq z cs) (b .costs) (cost .ensures)),
+      lines-are rp rt rq (held-rows s .1) (target-rows s .1) (price-rows s .1) ks us ts cs n (length (now (a .keys))) (word-room k) (all-room k) sorted
+          (subst (λ (z : List ℕ). Noted ks n rp z us) (b .quantities) (quantity .ensures))
+          (subst (λ (z : List ℕ). Noted ks n rt z ts) (b .weights) (weight .ensures))
+          (subst (λ (z : List ℕ). Noted ks n rq z cs) (b .costs) (cost .ensures)),
     )
 
 pub lines-spec : {M : Type 1} → statement M

@@ -9,10 +9,10 @@ use Rattle.drift.specs.Code.{Within}
 use Rattle.drift.proofs.Halves.{halved}
 
 abbrev Inv-loop : tie.InvT-loop
-Inv-loop words n x low₀ size₀ low size = Within words n x low (low + size)
+Inv-loop keys n x low₀ size₀ low size = Within keys n x low (low + size)
 
 abbrev μ-loop : tie.MeasureT-loop
-μ-loop words n x low₀ size₀ low size = size
+μ-loop keys n x low₀ size₀ low size = size
 
 loop-holds : tie.Need-loop-holds Inv-loop μ-loop
 loop-holds c = record { least = omega arith; most = omega arith; below = λ i l. absurd (omega arith); above = λ i l m. absurd (omega arith) }
@@ -38,12 +38,12 @@ step-requires c κs = search needs
 half-left : (c : tie.After-step Inv-loop μ-loop)
     → let l = c .before .before .before .loop in
     let a = c .before .before .before .before .before .args in
-    Within (now (a .words)) (a .n) (a .x) (l .low + c .step .result) (l .low + c .step .result + l .size / 2)
+    Within (now (a .keys)) (a .n) (a .x) (l .low + c .step .result) (l .low + c .step .result + l .size / 2)
 half-left c =
     let t = c .before .before in
     let l = t .before .loop in
     let s = t .before .before .before in
-    halved (now (s .args .words)) (s .args .n) (s .pre .0) (s .pre .1) (s .args .x) (l .low) (l .size) (t .loop-test .taken) (l .inv) (c .step .result) (c .step .ensures)
+    halved (now (s .args .keys)) (s .args .n) (s .pre .0) (s .pre .1) (s .args .x) (l .low) (l .size) (t .loop-test .taken) (l .inv) (c .step .result) (c .step .ensures)
 
 add-low : tie.Need-add-low Inv-loop μ-loop
 add-low c = record { fits = omega (arith, half-left c .least, half-left c .most) }

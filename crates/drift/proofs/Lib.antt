@@ -8,7 +8,6 @@ pub mod Bytes64
 pub mod Ordered
 pub mod Halves
 pub mod Inserted
-pub mod Moved
 pub mod Sized
 pub mod Looked
 pub mod Runs

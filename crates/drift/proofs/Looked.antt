@@ -1,4 +1,4 @@
--- Lookups: what was last said of a symbol is what was last said of its number; and the lines that the arrays hold.
+-- Lookups: what was last said of a symbol is what was last said of its key; and the lines that the arrays hold.
 -- Assumes nothing.
 use Prim.Native.Nat.{ℕ, zero, suc, _+_, _*_, _/_, _%_, _≤_, _<_}
 use mathlib.Core.Path.{_≡_, refl, sym, ap, _∙_}
@@ -22,40 +22,28 @@ use Rattle.records.specs.Record.{tableOk}
 use Rattle.records.proofs.Walk.{rest, rest-next}
 use Rattle.drift.specs.Rows.{rowOf, rowsIn, valued, rowsLayout}
 use Rattle.drift.specs.Symbols.{lastOf, keys, inserted, sortedWith}
-use Rattle.drift.specs.Code.{key, keyFirst, Listed, wordsOf, lastBits, Marked, run}
+use Rattle.drift.specs.Code.{key, keyOf, keysOf, Listed, lastBits, Marked, run}
 use Rattle.drift.proofs.Keys.{key-first}
 use Rattle.drift.proofs.Sized.{Sized, sized, same-by-key}
 
 -- ---- a row of a list that is all there
-pub row-there : (s : List ℕ) (w count i : ℕ) → Listed s w count → i < count → (w * i + w ≤ length s) × (w * i + w ≤ 32768)
+pub row-there : (s : List ℕ) (w count i : ℕ) → Listed s w count → i < count → w * i + 24 ≤ length s
 row-there s w count i l h =
     let last : w * (i + 1) ≤ w * count = mul-le-mul (le-refl w) (omega arith) in
-    (omega (arith, l .there), omega (arith, mul-le-mul (l .most) (l .few)))
+    omega (arith, l .least, l .there)
 
 -- ---- one row more: it takes its place, and says what it says
 module _ (w n : ℕ) (s : List ℕ) (i : ℕ) (h : i < n) where
-  sorted-step : (zs : List ℕ)
-      → sortedWith keyFirst zs (wordsOf (rest rowOf w n s i)) ≡ sortedWith keyFirst (inserted keyFirst (le 8 (drop (w * i) s)) zs) (wordsOf (rest rowOf w n s (i + 1)))
-  unfolding sortedWith wordsOf
-  sorted-step zs = rw (rest-next rowOf w n s i h)
+  pub gathered-step : (x : ℕ) (zs after : List ℕ) → x ≡ key (le 8 (drop (w * i) s)) → after ≡ inserted ltb x zs
+      → sortedWith ltb after (keysOf (rest rowOf w n s (i + 1))) ≡ sortedWith ltb zs (keysOf (rest rowOf w n s i))
+  unfolding sortedWith
+  gathered-step x zs after e f = rw (f, e, rest-next rowOf w n s i h)
 
-  -- behind it the symbols of the rows from the next on, j, are to be put in place still
-  pub gathered-step : (x : ℕ) (zs after : List ℕ) (j : ℕ) → j ≡ i + 1 → x ≡ le 8 (drop (w * i) s) → after ≡ inserted keyFirst x zs
-      → sortedWith keyFirst after (wordsOf (rest rowOf w n s j)) ≡ sortedWith keyFirst zs (wordsOf (rest rowOf w n s i))
-  gathered-step x zs after j g e f = rw (g, f, e) (sym (sorted-step zs))
-
-  last-step : (b x : ℕ)
-      → lastBits b x (rest rowOf w n s i) ≡ lastBits (cond (eqb (key (le 8 (drop (w * i) s))) (key x)) (le 8 (drop 16 (drop (w * i) s))) b) x (rest rowOf w n s (i + 1))
+  pub noted-step : (ks : List ℕ) (m x bits : ℕ) (at after : List ℕ) → x ≡ key (le 8 (drop (w * i) s)) → bits ≡ le 8 (drop 16 (drop (w * i) s))
+      → Marked ks m x bits at after → (k : ℕ) → k < m
+      → lastBits (getD after k 0) (getD ks k 0) (rest rowOf w n s (i + 1)) ≡ lastBits (getD at k 0) (getD ks k 0) (rest rowOf w n s i)
   unfolding lastBits
-  last-step b x = rw (rest-next rowOf w n s i h)
-
-  -- what the row says is noted: what the rows from the next on, j, say is to be noted still
-  pub noted-step : (ws : List ℕ) (m x bits : ℕ) (at after : List ℕ) (j : ℕ) → j ≡ i + 1 → x ≡ le 8 (drop (w * i) s) → bits ≡ le 8 (drop 16 (drop (w * i) s))
-      → Marked ws m x bits at after → (k : ℕ) → k < m
-      → lastBits (getD after k 0) (getD ws k 0) (rest rowOf w n s j) ≡ lastBits (getD at k 0) (getD ws k 0) (rest rowOf w n s i)
-  noted-step ws m x bits at after j g e f t k l =
-      let said : getD after k 0 ≡ cond (eqb (key (le 8 (drop (w * i) s))) (key (getD ws k 0))) (le 8 (drop 16 (drop (w * i) s))) (getD at k 0) = t .each k l ∙ rw (e, f) in
-      rw (g, said) (sym (last-step (getD at k 0) (getD ws k 0)))
+  noted-step ks m x bits at after e f t k l = rw (t .each k l, e, f, rest-next rowOf w n s i h)
 
 -- ---- the rows of a sound list have symbols whose fields are right
 rows-sized : (w n : ℕ) (s : List ℕ) → Bytes s → every wideFieldOk w n s ≡ true → Each (λ (r : Symbol × ℕ). Sized (r .0)) (records rowOf w n s)
@@ -82,27 +70,27 @@ sound-rows w d b h = by (ltb 1024 (length d / w)) refl (tableOk wideFieldOk w d)
         (ltb-false 1024 (length d / w) e, rows-sized w (length d / w) d b (and-right (eqb (length d % w) 0) (every wideFieldOk w (length d / w) d) f))
 
 -- ---- keys
-pub words-are : {B : Type 0} (f : ℕ → B) (rs : List (Symbol × ℕ)) → map (λ (y : Symbol). y .word) (keys (valued f rs)) ≡ wordsOf rs
-unfolding keys valued wordsOf
-words-are f [] = refl
-words-are f (r ∷ rs) = ap (λ (l : List ℕ). r .0 .word ∷ l) (words-are f rs)
+pub keys-are : {B : Type 0} (f : ℕ → B) (rs : List (Symbol × ℕ)) → map keyOf (keys (valued f rs)) ≡ keysOf rs
+unfolding keys valued
+keys-are f [] = refl
+keys-are f (r ∷ rs) = ap (λ (l : List ℕ). keyOf (r .0) ∷ l) (keys-are f rs)
 
 pub keys-sized : {B : Type 0} (f : ℕ → B) (rs : List (Symbol × ℕ)) → Each (λ (r : Symbol × ℕ). Sized (r .0)) rs → Each Sized (keys (valued f rs))
 unfolding keys valued
 keys-sized f [] none = none
 keys-sized f (r ∷ rs) (more p ps) = more p (keys-sized f rs ps)
 
-pub before-key : (y z : Symbol) → before y z ≡ keyFirst (y .word) (z .word)
+pub before-key : (y z : Symbol) → before y z ≡ ltb (keyOf y) (keyOf z)
 before-key y z = key-first 8 (y .word) (z .word)
 
 -- ---- what was last said
 pub last-same : {B : Type 0} (f : ℕ → B) (y : Symbol) → Sized y → (b : ℕ) (rs : List (Symbol × ℕ)) → Each (λ (r : Symbol × ℕ). Sized (r .0)) rs
-    → f (lastBits b (y .word) rs) ≡ lastOf (f b) y (valued f rs)
+    → f (lastBits b (keyOf y) rs) ≡ lastOf (f b) y (valued f rs)
 unfolding lastBits lastOf valued
 last-same f y z b [] none = refl
 last-same {B} f y z b (r ∷ rs) (more p ps) =
-    last-same f y z (cond (eqb (key (r .0 .word)) (key (y .word))) (r .1) b) rs ps
-    ∙ ap (λ (a : B). lastOf a y (valued f rs)) (by (eqb (key (r .0 .word)) (key (y .word))) (sameSymbol (r .0) y) (same-by-key (r .0) y p z))
+    last-same f y z (cond (eqb (keyOf (r .0)) (keyOf y)) (r .1) b) rs ps
+    ∙ ap (λ (a : B). lastOf a y (valued f rs)) (by (eqb (keyOf (r .0)) (keyOf y)) (sameSymbol (r .0) y) (same-by-key (r .0) y p z))
   where
     by : (u v : Bool) → v ≡ u → f (cond u (r .1) b) ≡ cond v (f (r .1)) (f b)
     by true v e = rw e

@@ -1,7 +1,7 @@
--- Lists in order by a number of each element: put in place, they stay so, and keep what each element has.
+-- Lists in order: put in place, numbers stay so; and what each element of a sorted list has.
 -- Assumes nothing.
-use Prim.Native.Nat.{ℕ, zero, suc, _+_, _<_}
-use mathlib.Core.Path.{_≡_, refl, sym, ap, _∙_}
+use Prim.Native.Nat.{ℕ, zero, suc, _<_}
+use mathlib.Core.Path.{_≡_, refl, ap, _∙_}
 use mathlib.Core.Bool.{Bool, true, false, cond}
 use mathlib.Core.List.{List, [], _∷_, _++_, map}
 use native.Mathlib.Nat.{not-suc-le-zero, le-of-suc-le-suc}
@@ -14,52 +14,46 @@ use Rattle.drift.specs.Symbols.{inserted, sortedWith}
 use Rattle.drift.specs.Code.{Over, Rising}
 use Rattle.drift.specs.Code as Code
 
-module _ {A : Type 0} (f : A → ℕ) where
-  over-less : {m n : ℕ} {xs : List A} → m < n → Over f n xs → Over f m xs
-  over-less h Code.Over.none = Code.Over.none
-  over-less {m} h (Code.Over.more {x} l o) = let k : m < f x = omega arith in Code.Over.more k (over-less h o)
+over-less : {m n : ℕ} {xs : List ℕ} → m < n → Over n xs → Over m xs
+over-less h Code.Over.none = Code.Over.none
+over-less {m} h (Code.Over.more {x} l o) = let k : m < x = omega arith in Code.Over.more k (over-less h o)
 
-  pub over-at : {m : ℕ} {xs : List A} → Over f m xs → (i : ℕ) (d : A) → i < length xs → m < f (getD xs i d)
-  over-at Code.Over.none i d h = absurd (not-suc-le-zero h)
-  over-at (Code.Over.more l o) zero d h = l
-  over-at (Code.Over.more l o) (suc i) d h = over-at o i d (le-of-suc-le-suc h)
+over-at : {m : ℕ} {xs : List ℕ} → Over m xs → (i d : ℕ) → i < length xs → m < getD xs i d
+over-at Code.Over.none i d h = absurd (not-suc-le-zero h)
+over-at (Code.Over.more l o) zero d h = l
+over-at (Code.Over.more l o) (suc i) d h = over-at o i d (le-of-suc-le-suc h)
 
-  -- an element before another has the smaller number
-  pub rise : {xs : List A} → Rising f xs → (i j : ℕ) (d : A) → i < j → j < length xs → f (getD xs i d) < f (getD xs j d)
-  rise Code.Rising.none i j d l h = absurd (not-suc-le-zero h)
-  rise (Code.Rising.more o r) zero zero d l h = absurd (not-suc-le-zero l)
-  rise (Code.Rising.more o r) zero (suc j) d l h = over-at o j d (le-of-suc-le-suc h)
-  rise (Code.Rising.more o r) (suc i) zero d l h = absurd (not-suc-le-zero l)
-  rise (Code.Rising.more o r) (suc i) (suc j) d l h = rise r i j d (le-of-suc-le-suc l) (le-of-suc-le-suc h)
+-- a number before another is the smaller
+pub rise : {xs : List ℕ} → Rising xs → (i j d : ℕ) → i < j → j < length xs → getD xs i d < getD xs j d
+rise Code.Rising.none i j d l h = absurd (not-suc-le-zero h)
+rise (Code.Rising.more o r) i zero d l h = absurd (not-suc-le-zero l)
+rise (Code.Rising.more o r) zero (suc j) d l h = over-at o j d (le-of-suc-le-suc h)
+rise (Code.Rising.more o r) (suc i) (suc j) d l h = rise r i j d (le-of-suc-le-suc l) (le-of-suc-le-suc h)
 
-  -- where the order is that of the numbers
-  module _ (first : A → A → Bool) (is : (x y : A) → first x y ≡ ltb (f x) (f y)) where
-    over-inserted : (m : ℕ) (y : A) (zs : List A) → m < f y → Over f m zs → Over f m (inserted first y zs)
-    unfolding inserted
-    over-inserted m y [] l Code.Over.none = Code.Over.more l Code.Over.none
-    over-inserted m y (z ∷ zs) l (Code.Over.more k o) = by (over-inserted m y zs l o) (first y z) (first z y)
-      where
-        by : Over f m (inserted first y zs) → (u v : Bool) → Over f m (cond u (y ∷ z ∷ zs) (cond v (z ∷ inserted first y zs) (z ∷ zs)))
-        by d true v = Code.Over.more l (Code.Over.more k o)
-        by d false true = Code.Over.more k d
-        by d false false = Code.Over.more k o
+over-inserted : (m y : ℕ) (zs : List ℕ) → m < y → Over m zs → Over m (inserted ltb y zs)
+unfolding inserted
+over-inserted m y [] l Code.Over.none = Code.Over.more l Code.Over.none
+over-inserted m y (z ∷ zs) l (Code.Over.more k o) = by (over-inserted m y zs l o) (ltb y z) (ltb z y)
+  where
+    by : Over m (inserted ltb y zs) → (u v : Bool) → Over m (cond u (y ∷ z ∷ zs) (cond v (z ∷ inserted ltb y zs) (z ∷ zs)))
+    by d true v = Code.Over.more l (Code.Over.more k o)
+    by d false true = Code.Over.more k d
+    by d false false = Code.Over.more k o
 
-    pub rising-inserted : (y : A) (zs : List A) → Rising f zs → Rising f (inserted first y zs)
-    unfolding inserted
-    rising-inserted y [] Code.Rising.none = Code.Rising.more Code.Over.none Code.Rising.none
-    rising-inserted y (z ∷ zs) (Code.Rising.more o r) = by (rising-inserted y zs r) (first y z) refl (first z y) refl
-      where
-        by : Rising f (inserted first y zs) → (u : Bool) → first y z ≡ u → (v : Bool) → first z y ≡ v → Rising f (cond u (y ∷ z ∷ zs) (cond v (z ∷ inserted first y zs) (z ∷ zs)))
-        by d true e v g =
-            let l = ltb-true (f y) (f z) (sym (is y z) ∙ e) in
-            Code.Rising.more (Code.Over.more l (over-less l o)) (Code.Rising.more o r)
-        by d false e true g = Code.Rising.more (over-inserted (f z) y zs (ltb-true (f z) (f y) (sym (is z y) ∙ g)) o) d
-        by d false e false g = Code.Rising.more o r
+pub rising-inserted : (y : ℕ) (zs : List ℕ) → Rising zs → Rising (inserted ltb y zs)
+unfolding inserted
+rising-inserted y [] Code.Rising.none = Code.Rising.more Code.Over.none Code.Rising.none
+rising-inserted y (z ∷ zs) (Code.Rising.more o r) = by (rising-inserted y zs r) (ltb y z) refl (ltb z y) refl
+  where
+    by : Rising (inserted ltb y zs) → (u : Bool) → ltb y z ≡ u → (v : Bool) → ltb z y ≡ v → Rising (cond u (y ∷ z ∷ zs) (cond v (z ∷ inserted ltb y zs) (z ∷ zs)))
+    by d true e v g = let l = ltb-true y z e in Code.Rising.more (Code.Over.more l (over-less l o)) (Code.Rising.more o r)
+    by d false e true g = Code.Rising.more (over-inserted z y zs (ltb-true z y g) o) d
+    by d false e false g = Code.Rising.more o r
 
-    pub rising-sorted : (zs ys : List A) → Rising f zs → Rising f (sortedWith first zs ys)
-    unfolding sortedWith
-    rising-sorted zs [] r = r
-    rising-sorted zs (y ∷ ys) r = rising-sorted (inserted first y zs) ys (rising-inserted y zs r)
+pub rising-sorted : (zs ys : List ℕ) → Rising zs → Rising (sortedWith ltb zs ys)
+unfolding sortedWith
+rising-sorted zs [] r = r
+rising-sorted zs (y ∷ ys) r = rising-sorted (inserted ltb y zs) ys (rising-inserted y zs r)
 
 -- ---- what each element has
 module _ {A : Type 0} (first : A → A → Bool) (P : A → Type 0) where

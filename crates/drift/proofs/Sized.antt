@@ -17,8 +17,8 @@ use Rattle.symbol.specs.Symbol.{symbolByte, fieldSymbol, fieldOk, wideFieldOk, 
 use Rattle.symbol.specs.declared.Symbol.{Symbol}
 use Rattle.symbol.proofs.Text.{and-left, and-right}
 use Rattle.symbol.proofs.Field.{wordOk, field-word, field-short, field-long}
-use Rattle.drift.specs.Code.{key, lenOf, symbolAt}
-use Rattle.drift.proofs.Keys.{same-key}
+use Rattle.drift.specs.Code.{key, keyOf, lenOf, symbolAt}
+use Rattle.drift.proofs.Keys.{restored}
 use Rattle.drift.proofs.Integers.{never}
 
 -- a number of `len` bytes, the last of which is not 0
@@ -99,13 +99,15 @@ len-of y z =
 pub sized-at : (y : Symbol) → Sized y → symbolAt (y .word) ≡ y
 sized-at y z = λ i. record { word = y .word; len = len-of y z i }
 
+pub key-back : (y : Symbol) → Sized y → symbolAt (key (keyOf y)) ≡ y
+key-back y z = ap symbolAt (restored (y .word) (below y z)) ∙ sized-at y z
+
 -- ---- the same symbol
-pub same-by-key : (y z : Symbol) → Sized y → Sized z → sameSymbol y z ≡ eqb (key (y .word)) (key (z .word))
-same-by-key y z p q = by (eqb (key (y .word)) (key (z .word))) refl
+pub same-by-key : (y z : Symbol) → Sized y → Sized z → sameSymbol y z ≡ eqb (keyOf y) (keyOf z)
+same-by-key y z p q = by (eqb (keyOf y) (keyOf z)) refl
   where
-    by : (v : Bool) → eqb (key (y .word)) (key (z .word)) ≡ v → sameSymbol y z ≡ v
+    by : (v : Bool) → eqb (keyOf y) (keyOf z) ≡ v → sameSymbol y z ≡ v
     by true e =
-        let w = same-key 8 (y .word) (z .word) (below y p) (below z q) (eqb-true (key (y .word)) (key (z .word)) e) in
-        let l : y .len ≡ z .len = sym (len-of y p) ∙ ap lenOf w ∙ len-of z q in
-        rw (eq-eqb (y .word) (z .word) w, eq-eqb (y .len) (z .len) l)
-    by false e = rw (ne-eqb (y .word) (z .word) (λ w. eqb-false (key (y .word)) (key (z .word)) e (ap key w)))
+        let k : y ≡ z = sym (key-back y p) ∙ ap (λ (x : ℕ). symbolAt (key x)) (eqb-true (keyOf y) (keyOf z) e) ∙ key-back z q in
+        rw (eq-eqb (y .word) (z .word) (ap (λ (s : Symbol). s .word) k), eq-eqb (y .len) (z .len) (ap (λ (s : Symbol). s .len) k))
+    by false e = rw (ne-eqb (y .word) (z .word) (λ w. eqb-false (keyOf y) (keyOf z) e (ap key w)))

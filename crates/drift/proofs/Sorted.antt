@@ -1,13 +1,14 @@
 -- The sort is one: what `symbolsOf` gives is strictly in order by `before`, so without repeats, and has the same symbols as the list. About no function.
 -- Assumes nothing.
 use Prim.Native.Nat.{ℕ, _<_}
-use mathlib.Core.Path.{_≡_, refl, sym, ap, _∙_}
+use mathlib.Core.Path.{_≡_, refl, sym, ap, subst, _∙_}
 use mathlib.Core.Bool.{Bool, true, false, cond, _||_}
-use mathlib.Core.List.{List, [], _∷_, _++_}
+use mathlib.Core.List.{List, [], _∷_, _++_, map}
 use native.Mathlib.Omega.{arith}
 use borrow.Author.Tests.{ltb-false, lt-ltb}
 use lib.Ieee.{binary64, ofBits}
-use lib.ListN.{length, getD}
+use lib.Dec.{ltb}
+use lib.ListN.{length, getD, length-map, List·getD-map}
 use mir.Syntax.{w64}
 use mir.Val.{toZ}
 use Rattle.wire.specs.declared.layout.Layout.the-variants.{Sound}
@@ -18,20 +19,21 @@ use Rattle.symbol.specs.declared.Symbol.{Symbol}
 use Rattle.records.specs.Search.{anyWhere}
 use Rattle.drift.specs.Rows.{rowsIn, heldIn, targetsIn, rowsLayout}
 use Rattle.drift.specs.Symbols.{keys, inserted, sortedWith, symbolsOf}
-use Rattle.drift.specs.Code.{key, symbolAt, Rising}
+use Rattle.drift.specs.Code.{key, keyOf, symbolAt, Rising}
 use Rattle.drift.specs.Code as Code
-use Rattle.drift.proofs.Keys.{same-key}
-use Rattle.drift.proofs.Ordered.{rise, rising-sorted, each-inserted, each-append}
-use Rattle.drift.proofs.Sized.{Sized, below, sized-at}
+use Rattle.drift.proofs.Ordered.{rise, rising-sorted, map-sorted, each-inserted, each-append}
+use Rattle.drift.proofs.Sized.{Sized, key-back}
 use Rattle.drift.proofs.Looked.{sound-rows, keys-sized, before-key}
 
 -- ---- strictly in order
 pub in-order : (ys : List Symbol) (i j : ℕ) (d : Symbol) → i < j → j < length (symbolsOf ys) → before (getD (symbolsOf ys) i d) (getD (symbolsOf ys) j d) ≡ true
 in-order ys i j d l h =
-    let r = rising-sorted (λ (y : Symbol). key (y .word)) before before-key [] ys Code.Rising.none in
-    let y = getD (symbolsOf ys) i d in
-    let z = getD (symbolsOf ys) j d in
-    before-key y z ∙ lt-ltb (key (y .word)) (key (z .word)) (rise (λ (y : Symbol). key (y .word)) r i j d l h)
+    let s = symbolsOf ys in
+    let y = getD s i d in
+    let z = getD s j d in
+    let r : Rising (map keyOf s) = subst Rising (sym (map-sorted keyOf before ltb before-key [] ys)) (rising-sorted [] (map keyOf ys) Code.Rising.none) in
+    let k : keyOf y < keyOf z = rw (List·getD-map keyOf s i d, List·getD-map keyOf s j d) at (rise r i j (keyOf d) l (rw (length-map s keyOf) h)) in
+    before-key y z ∙ lt-ltb (keyOf y) (keyOf z) k
 
 -- ---- the same symbols
 or-swap : (a b c : Bool) → (a || (b || c)) ≡ (b || (a || c))
@@ -54,10 +56,10 @@ or-assoc false b c = refl
 -- symbols of which neither stands before the other are one
 one-symbol : (y z : Symbol) → Sized y → Sized z → before y z ≡ false → before z y ≡ false → y ≡ z
 one-symbol y z p q e f =
-    let a = ltb-false (key (y .word)) (key (z .word)) (sym (before-key y z) ∙ e) in
-    let b = ltb-false (key (z .word)) (key (y .word)) (sym (before-key z y) ∙ f) in
-    let k : key (y .word) ≡ key (z .word) = omega arith in
-    sym (sized-at y p) ∙ ap symbolAt (same-key 8 (y .word) (z .word) (below y p) (below z q) k) ∙ sized-at z q
+    let a = ltb-false (keyOf y) (keyOf z) (sym (before-key y z) ∙ e) in
+    let b = ltb-false (keyOf z) (keyOf y) (sym (before-key z y) ∙ f) in
+    let k : keyOf y ≡ keyOf z = omega arith in
+    sym (key-back y p) ∙ ap (λ (x : ℕ). symbolAt (key x)) k ∙ key-back z q
 
 module _ (g : Symbol → Bool) where
   any-inserted : (y : Symbol) (zs : List Symbol) → Sized y → Each Sized zs → anyWhere g (inserted before y zs) ≡ (g y || anyWhere g zs)

@@ -2,9 +2,10 @@
 ghost use mathlib.Core.Path.{_≡_};
 ghost use lib.Seq.{sets};
 ghost use Rattle.drift.specs.Entry.{targetShares, entryBytes};
-ghost use Rattle.drift.specs.Code.{weightAnswer, madeOf, symbolAt};
+ghost use Rattle.drift.specs.Code.{weightAnswer, madeOf, key, symbolAt};
 use crate::whole;
 use crate::whole::Whole;
+use crate::words::key_of;
 use crate::words::len_of;
 use float::bits::nearest_i64;
 use float::bits::saturating_i64;
@@ -82,18 +83,19 @@ pub fn entry_of(quantity: i64, weight: f64, price: i64, equity: i64) -> Made
     })
 }
 
-// Writes the 64 bytes of the entry of the symbol with the number x at a place.
+// Writes the 64 bytes of the entry of the symbol with the key x at a place.
 pub fn put_entry(d: &mut [u8], at: usize, x: u64, e: ReconcileEntry)
-    ensures { λ _. ⌜ now (d .exit) ≡ sets (now (d .entry)) at (entryBytes (symbolAt x) e) ⌝ }
+    ensures { λ _. ⌜ now (d .exit) ≡ sets (now (d .entry)) at (entryBytes (symbolAt (key x)) e) ⌝ }
 {
     if d.len() <= at {
         return;
     }
+    let word = key_of(x);
     put_four(
         d,
         at,
-        x,
-        len_of(x),
+        word,
+        len_of(word),
         to_bits(e.target_weight),
         to_bits(e.actual_weight),
     );

@@ -43,7 +43,7 @@ fn tracking_error(sum: f64, n: usize) -> f64
 // Writes the entry of each line into `entries`, which is zero before. Where there is no room the entries are made all the same, since refusal 12
 // comes first.
 fn write_entries(
-    words: &[u64],
+    keys: &[u64],
     quantities: &[u64],
     weights: &[u64],
     costs: &[u64],
@@ -51,8 +51,8 @@ fn write_entries(
     equity: i64,
     entries: &mut [u8],
 ) -> Drift
-    requires { ⌜ Filled n (now words) (now quantities) (now weights) (now costs) ⌝ ∗ ⌜ now entries ≡ replicate (length (now entries)) 0 ⌝ }
-    ensures { λ r. ⌜ Reported r (now (entries .exit)) (linesAt (now (words .entry)) (now (quantities .entry)) (now (weights .entry)) (now (costs .entry)) n) equity (length (now (entries .entry))) ⌝ }
+    requires { ⌜ Filled n (now keys) (now quantities) (now weights) (now costs) ⌝ ∗ ⌜ now entries ≡ replicate (length (now entries)) 0 ⌝ }
+    ensures { λ r. ⌜ Reported r (now (entries .exit)) (linesAt (now (keys .entry)) (now (quantities .entry)) (now (weights .entry)) (now (costs .entry)) n) equity (length (now (entries .entry))) ⌝ }
 {
     let mut sum = 0.0;
     let mut k = 0;
@@ -64,7 +64,7 @@ fn write_entries(
             wire::clear(entries);
             return Drift::OutOfRange;
         };
-        entry::put_entry(entries, 64 * k, words[k], e);
+        entry::put_entry(entries, 64 * k, keys[k], e);
         sum = sum + e.diff_weight * e.diff_weight;
         k += 1;
     }
@@ -81,25 +81,17 @@ fn report_in(
     targets: &[u8],
     prices: &[u8],
     equity: i64,
-    words: &mut [u64],
+    keys: &mut [u64],
     quantities: &mut [u64],
     weights: &mut [u64],
     costs: &mut [u64],
     entries: &mut [u8],
 ) -> Drift
-    requires { ⌜ SoundLists (now positions) (now targets) (now prices) ⌝ ∗ ⌜ Blank (now positions) (now targets) (now words) (now quantities) (now weights) (now costs) ⌝ ∗ ⌜ now entries ≡ replicate (length (now entries)) 0 ⌝ }
+    requires { ⌜ SoundLists (now positions) (now targets) (now prices) ⌝ ∗ ⌜ Blank (now positions) (now targets) (now keys) (now quantities) (now weights) (now costs) ⌝ ∗ ⌜ now entries ≡ replicate (length (now entries)) 0 ⌝ }
     ensures { λ r. ⌜ Reported r (now (entries .exit)) (linesOf (heldIn (now (positions .entry))) (targetsIn (now (targets .entry))) (pricesIn (now (prices .entry)))) equity (length (now (entries .entry))) ⌝ }
 {
-    let n = words::lines(
-        positions,
-        targets,
-        prices,
-        words,
-        quantities,
-        weights,
-        costs,
-    );
-    write_entries(words, quantities, weights, costs, n, equity, entries)
+    let n = words::lines(positions, targets, prices, keys, quantities, weights, costs);
+    write_entries(keys, quantities, weights, costs, n, equity, entries)
 }
 
 // The entries of lists that are sound. Short lists are worked on in short arrays.
@@ -108,7 +100,7 @@ fn report(positions: &[u8], targets: &[u8], prices: &[u8], equity: i64, entries:
     ensures { λ r. ⌜ Reported r (now (entries .exit)) (linesOf (heldIn (now (positions .entry))) (targetsIn (now (targets .entry))) (pricesIn (now (prices .entry)))) equity (length (now (entries .entry))) ⌝ }
 {
     if positions.len() / 32 + targets.len() / 24 <= 32 {
-        let mut words = [0u64; 32];
+        let mut keys = [0u64; 32];
         let mut quantities = [0u64; 32];
         let mut weights = [0u64; 32];
         let mut costs = [0u64; 32];
@@ -117,14 +109,14 @@ fn report(positions: &[u8], targets: &[u8], prices: &[u8], equity: i64, entries:
             targets,
             prices,
             equity,
-            &mut words,
+            &mut keys,
             &mut quantities,
             &mut weights,
             &mut costs,
             entries,
         );
     }
-    let mut words = [0u64; 2048];
+    let mut keys = [0u64; 2048];
     let mut quantities = [0u64; 2048];
     let mut weights = [0u64; 2048];
     let mut costs = [0u64; 2048];
@@ -133,7 +125,7 @@ fn report(positions: &[u8], targets: &[u8], prices: &[u8], equity: i64, entries:
         targets,
         prices,
         equity,
-        &mut words,
+        &mut keys,
         &mut quantities,
         &mut weights,
         &mut costs,
@@ -152,7 +144,7 @@ fn check_lists(positions: &[u8], targets: &[u8], prices: &[u8]) -> Layout
 }
 
 // Entry. The drift of what is held (records of 32 bytes) against targets and prices (rows of 24), at an equity in cents: an entry of 64 bytes for each
-// symbol that is held or targeted, in symbol order, zeros behind them, their count and the tracking error. A refusal leaves zeros.
+// symbol that is held or targeted, in symbol order, zeros after them, their count and the tracking error. A refusal leaves zeros.
 pub fn reconcile(
     positions: &[u8],
     targets: &[u8],

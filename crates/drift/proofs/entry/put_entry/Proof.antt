@@ -1,4 +1,4 @@
--- `entry::put_entry`: the two halves, one behind the other; nothing past the end.
+-- `entry::put_entry`: the two halves, one after the other; nothing past the end.
 use borrow.Author.Needs.{needs}
 use Rattle.drift.proofs.entry.put_entry.Statement.{statement}
 use Rattle.drift.proofs.entry.put_entry.Tie as tie
@@ -8,13 +8,16 @@ use mir.Syntax.{w64}
 use mir.ValLaws.{toZ-ofZ}
 use Rattle.wire.proofs.Written.{sets-past}
 use Rattle.drift.specs.Entry.{entryBytes}
-use Rattle.drift.specs.Code.{symbolAt}
+use Rattle.drift.specs.Code.{key, symbolAt}
 use Rattle.drift.proofs.Bytes64.{two-halves}
 
 returns : tie.Need-returns
 returns c =
     let a = c .before .before .args in
-    sym (sets-past (now (a .d)) (a .at) (entryBytes (symbolAt (a .x)) (a .e)) (c .if1 .taken))
+    sym (sets-past (now (a .d)) (a .at) (entryBytes (symbolAt (key (a .x))) (a .e)) (c .if1 .taken))
+
+key-of-requires : tie.Need-key-of-requires
+key-of-requires c κs = search needs
 
 len-of-requires : tie.Need-len-of-requires
 len-of-requires c κs = search needs
@@ -51,11 +54,12 @@ same-length c = search needs
 
 returns-2 : tie.Need-returns-2
 returns-2 c =
-    let a = c .before .before .before .before .before .before .before .before .before .before .before .before .before .before .before .before .before .before .before .before .args in
+    let a = c .before .before .before .before .before .before .before .before .before .before .before .before .before .before .before .before .before .before .before .before .before .args in
     c .before .before .put-four2 .ensures
     ∙ rw (
       c .before .before .before .before .before .before .before .before .before .before .before .before .before .put-four .ensures,
       c .before .before .before .before .before .before .before .before .before .before .before .before .before .before .before .before .len-of .ensures,
+      c .before .before .before .before .before .before .before .before .before .before .before .before .before .before .before .before .before .before .key-of .ensures,
       c .before .before .before .before .before .before .before .before .before .before .before .before .before .before .before .to-bits .ensures,
       c .before .before .before .before .before .before .before .before .before .before .before .before .before .before .to-bits2 .ensures,
       c .before .before .before .to-bits3 .ensures,
@@ -65,13 +69,14 @@ returns-2 c =
       toZ-ofZ w64 (a .e .«target_shares») (search needs),
       toZ-ofZ w64 (a .e .«actual_shares») (search needs),
       toZ-ofZ w64 (a .e .«diff_shares») (search needs),
-    ) (two-halves (now (a .d)) (a .at) (symbolAt (a .x)) (a .e))
+    ) (two-halves (now (a .d)) (a .at) (symbolAt (key (a .x))) (a .e))
 
 pub put-entry-spec : {M : Type 1} → statement M
 put-entry-spec =
     tie.close
     (tie.spec
     returns
+    key-of-requires
     len-of-requires
     to-bits-requires
     to-bits-requires-2

@@ -12,17 +12,17 @@ use Rattle.drift.proofs.Looked.{row-there}
 mul-whole-u64-at : tie.Need-mul-whole-u64-at
 mul-whole-u64-at c =
     let a = c .before .args in
-    record { fits = omega (arith, row-there (now (a .list)) (a .width) (a .count) (a .i) (c .before .pre .0) (c .before .pre .1) .1) }
+    record { fits = omega (arith, row-there (now (a .list)) (a .width) (a .count) (a .i) (c .before .pre .0) (c .before .pre .1)) }
 
 add-whole-u64-at : tie.Need-add-whole-u64-at
 add-whole-u64-at c =
     let a = c .before .args in
-    record { fits = omega (arith, row-there (now (a .list)) (a .width) (a .count) (a .i) (c .before .pre .0) (c .before .pre .1) .1) }
+    record { fits = omega (arith, row-there (now (a .list)) (a .width) (a .count) (a .i) (c .before .pre .0) (c .before .pre .1)) }
 
 whole-u64-at-requires : tie.Need-whole-u64-at-requires
 whole-u64-at-requires c κs =
     let a = c .before .args in
-    omega (arith, row-there (now (a .list)) (a .width) (a .count) (a .i) (c .before .pre .0) (c .before .pre .1) .0, c .before .pre .0 .least)
+    omega (arith, row-there (now (a .list)) (a .width) (a .count) (a .i) (c .before .pre .0) (c .before .pre .1))
 
 returns : tie.Need-returns
 returns c =

@@ -10,6 +10,9 @@ use denote.Ref.{now}
 use lib.ListN.{take, set}
 use Rattle.drift.proofs.Inserted.{insert-old, insert-new}
 
+place-requires : tie.Need-place-requires
+place-requires c κs = search needs
+
 has-requires : tie.Need-has-requires
 has-requires c κs = search needs
 
@@ -18,18 +21,18 @@ same-length c = search needs
 
 returns : tie.Need-returns
 returns c =
-    let s = c .before .before .before .before in
-    let a = s .args in
-    (omega arith, omega arith, sym (insert-old (now (a .words)) (a .n) (a .x) (a .p) (s .pre .1 .0) (omega arith) (s .pre .1 .1) (sym (c .before .has .ensures) ∙ c .if1 .taken)))
+    let p = c .before .before .before in
+    let a = p .before .before .before .args in
+    (omega arith, sym (insert-old (now (a .keys)) (a .n) (a .x) (p .place .result) (omega arith) (p .place .ensures) (sym (c .before .has .ensures) ∙ c .if1 .taken)))
 
 open-requires : tie.Need-open-requires
 open-requires c κs = search needs
 
-mul-words : tie.Need-mul-words
-mul-words c = search needs
+mul-keys : tie.Need-mul-keys
+mul-keys c = search needs
 
-slice-write-words : tie.Need-slice-write-words
-slice-write-words c = search needs
+slice-write-keys : tie.Need-slice-write-keys
+slice-write-keys c = search needs
 
 add-result : tie.Need-add-result
 add-result c = search needs
@@ -40,20 +43,21 @@ same-length-2 c = search needs
 returns-2 : tie.Need-returns-2
 returns-2 c =
     let i = c .before .before .before .before in
-    let s = i .before .before .before .before in
-    let a = s .args in
-    (omega arith, omega arith, ap (λ (t : List ℕ). take (a .n + 1) (set t (a .p) (a .x))) (c .before .before .«open» .ensures) ∙ insert-new (now (a .words)) (a .n) (a .x) (a .p) (s .pre .1 .0) (omega arith) (s .pre .1 .1) (omega arith) (sym (i .before .has .ensures) ∙ i .if1 .left))
+    let p = i .before .before .before in
+    let a = p .before .before .before .args in
+    (omega arith, ap (λ (t : List ℕ). take (a .n + 1) (set t (p .place .result) (a .x))) (c .before .before .«open» .ensures) ∙ insert-new (now (a .keys)) (a .n) (a .x) (p .place .result) (omega arith) (p .place .ensures) (omega arith) (sym (i .before .has .ensures) ∙ i .if1 .left))
 
 pub insert-spec : {M : Type 1} → statement M
 insert-spec =
     tie.close
     (tie.spec
+    place-requires
     has-requires
     same-length
     returns
     open-requires
-    mul-words
-    slice-write-words
+    mul-keys
+    slice-write-keys
     add-result
     same-length-2
     returns-2)

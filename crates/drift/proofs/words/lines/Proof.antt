@@ -6,13 +6,14 @@ use mathlib.Core.List.{List}
 use native.Mathlib.Nat.{mul-comm, div-mul-le-self}
 use native.Mathlib.Omega.{arith}
 use denote.Ref.{now}
+use lib.Dec.{ltb}
 use lib.ListN.{length, replicate, length-replicate}
 use Rattle.wire.proofs.Records.{Each, length-records}
 use Rattle.symbol.specs.declared.Symbol.{Symbol}
 use Rattle.symbol.proofs.Text.{bytes-of}
 use Rattle.drift.specs.Rows.{rowOf, rowsIn}
 use Rattle.drift.specs.Symbols.{sortedWith}
-use Rattle.drift.specs.Code.{keyFirst, Listed, wordsOf, Noted}
+use Rattle.drift.specs.Code.{Listed, keysOf, Noted}
 use Rattle.drift.specs.Code as Code
 use Rattle.drift.proofs.Looked.{sound-rows}
 use Rattle.drift.proofs.Sized.{Sized}
@@ -20,92 +21,86 @@ use Rattle.drift.proofs.Lines.{lines-are}
 use Rattle.drift.proofs.words.lines.Statement.{statement}
 use Rattle.drift.proofs.words.lines.Tie as tie
 
--- an array of m zeros
-zeros : (m : ℕ) (l : List ℕ) → l ≡ replicate m 0 → length l ≡ m
-zeros m l e = ap length e ∙ length-replicate {A = ℕ} m 0
+-- where the function begins
+abbrev begun : tie.After-slice-known4 → tie.Start
+begun s = s .before .before .before .before .before .before .before
 
 -- the rows of the three lists
 held-rows : (s : tie.After-slice-known4)
-    → (length (now (s .before .before .before .before .before .before .before .args .positions)) / 32 ≤ 1024) × Each (λ (r : Symbol × ℕ). Sized (r .0)) (rowsIn 32 (now (s .before .before .before .before .before .before .before .args .positions)))
+    → let p = now (begun s .args .positions) in (length p / 32 ≤ 1024) × Each (λ (r : Symbol × ℕ). Sized (r .0)) (rowsIn 32 p)
 held-rows s =
-    let p = now (s .before .before .before .before .before .before .before .args .positions) in
-    sound-rows 32 p (bytes-of p (s .before .before .before .before .before .before .shared-slice-known .given)) (s .before .before .before .before .before .before .before .pre .0 .held)
+    let p = now (begun s .args .positions) in
+    sound-rows 32 p (bytes-of p (s .before .before .before .before .before .before .shared-slice-known .given)) (begun s .pre .0 .held)
 
 target-rows : (s : tie.After-slice-known4)
-    → (length (now (s .before .before .before .before .before .before .before .args .targets)) / 24 ≤ 1024) × Each (λ (r : Symbol × ℕ). Sized (r .0)) (rowsIn 24 (now (s .before .before .before .before .before .before .before .args .targets)))
+    → let t = now (begun s .args .targets) in (length t / 24 ≤ 1024) × Each (λ (r : Symbol × ℕ). Sized (r .0)) (rowsIn 24 t)
 target-rows s =
-    let t = now (s .before .before .before .before .before .before .before .args .targets) in
-    sound-rows 24 t (bytes-of t (s .before .before .before .before .before .shared-slice-known2 .given)) (s .before .before .before .before .before .before .before .pre .0 .wanted)
+    let t = now (begun s .args .targets) in
+    sound-rows 24 t (bytes-of t (s .before .before .before .before .before .shared-slice-known2 .given)) (begun s .pre .0 .wanted)
 
 price-rows : (s : tie.After-slice-known4)
-    → (length (now (s .before .before .before .before .before .before .before .args .prices)) / 24 ≤ 1024) × Each (λ (r : Symbol × ℕ). Sized (r .0)) (rowsIn 24 (now (s .before .before .before .before .before .before .before .args .prices)))
+    → let q = now (begun s .args .prices) in (length q / 24 ≤ 1024) × Each (λ (r : Symbol × ℕ). Sized (r .0)) (rowsIn 24 q)
 price-rows s =
-    let q = now (s .before .before .before .before .before .before .before .args .prices) in
-    sound-rows 24 q (bytes-of q (s .before .before .before .before .shared-slice-known3 .given)) (s .before .before .before .before .before .before .before .pre .0 .priced)
+    let q = now (begun s .args .prices) in
+    sound-rows 24 q (bytes-of q (s .before .before .before .before .shared-slice-known3 .given)) (begun s .pre .0 .priced)
 
 -- they are all there
-listed : (w : ℕ) (d : List ℕ) → 24 ≤ w → w ≤ 32 → length d / w ≤ 1024 → Listed d w (length d / w)
-listed w d h m f = record { least = h; most = m; few = f; there = rw (mul-comm w (length d / w)) (div-mul-le-self (length d) w) }
+listed : (w : ℕ) (d : List ℕ) → 24 ≤ w → Listed d w (length d / w)
+listed w d h = record { least = h; there = rw (mul-comm w (length d / w)) (div-mul-le-self (length d) w) }
 
--- how many are taken behind the first list, and behind both
-some-most : (g : tie.After-gather) → g .gather .result ≤ length (now (g .before .before .before .before .before .before .before .before .before .args .positions)) / 32
+-- how many are taken after the first list, and after both
+some-most : (g : tie.After-gather) → g .gather .result ≤ length (now (begun (g .before .before) .args .positions)) / 32
 some-most g =
-    let p = now (g .before .before .before .before .before .before .before .before .before .args .positions) in
+    let p = now (begun (g .before .before) .args .positions) in
     omega (arith, g .gather .ensures .most, length-records rowOf 32 (length p / 32) p)
 
-all-most : (k : tie.After-gather2) → k .gather2 .result ≤ length (now (k .before .before .before .before .before .before .before .before .before .before .before .before .before .args .positions)) / 32 + length (now (k .before .before .before .before .before .before .before .before .before .before .before .before .before .args .targets)) / 24
+abbrev known : tie.After-gather2 → tie.After-slice-known4
+known k = k .before .before .before .before .before .before
+
+all-most : (k : tie.After-gather2)
+    → let a = begun (known k) .args in k .gather2 .result ≤ length (now (a .positions)) / 32 + length (now (a .targets)) / 24
 all-most k =
-    let t = now (k .before .before .before .before .before .before .before .before .before .before .before .before .before .args .targets) in
+    let t = now (begun (known k) .args .targets) in
     omega (arith, some-most (k .before .before .before .before), k .gather2 .ensures .most, length-records rowOf 24 (length t / 24) t)
 
-all-room : (k : tie.After-gather2) → k .gather2 .result ≤ length (now (k .before .before .before .before .before .before .before .before .before .before .before .before .before .args .words))
-all-room k =
-    let b = (k .before .before .before .before .before .before .before .before .before .before .before .before .before .pre .1) in
-    omega (arith, all-most k, b .room)
+-- the arrays have room for them
+all-room : (k : tie.After-gather2) → k .gather2 .result ≤ length (now (begun (known k) .args .keys))
+all-room k = omega (arith, all-most k, begun (known k) .pre .1 .room)
 
-all-few : (k : tie.After-gather2) → k .gather2 .result ≤ 2048
-all-few k =
-    let s = k .before .before .before .before .before .before in
-    omega (arith, all-most k, held-rows s .0, target-rows s .0)
+word-room : (k : tie.After-gather2) → k .gather2 .result ≤ length (k .gather2 .last .1 .1 .1 .0)
+word-room k = omega (arith, all-room k, k .gather2 .kept .1 .1 .1 .0, k .before .before .before .before .gather .kept .1 .1 .1 .0)
 
-all-size : (k : tie.After-gather2) → length (k .gather2 .last .1 .1 .1 .0) ≡ length (now (k .before .before .before .before .before .before .before .before .before .before .before .before .before .args .words))
-all-size k = k .gather2 .kept .1 .1 .1 .0 ∙ k .before .before .before .before .gather .kept .1 .1 .1 .0
-
--- an array of zeros has room for them
-value-room : (k : tie.After-gather2) (l : List ℕ) → l ≡ replicate (length (now (k .before .before .before .before .before .before .before .before .before .before .before .before .before .args .words))) 0 → k .gather2 .result ≤ length l
-value-room k l e = omega (arith, all-room k, zeros (length (now (k .before .before .before .before .before .before .before .before .before .before .before .before .before .args .words))) l e)
+value-room : (k : tie.After-gather2) (l : List ℕ) → l ≡ replicate (length (now (begun (known k) .args .keys))) 0 → k .gather2 .result ≤ length l
+value-room k l e = rw (e, length-replicate {A = ℕ} (length (now (begun (known k) .args .keys))) 0) (all-room k)
 
 gather-requires : tie.Need-gather-requires
 gather-requires c κs =
-    let s = c .before in
-    let b = s .before .before .before .before .before .before .before .pre .1 in
-    let p = now (s .before .before .before .before .before .before .before .args .positions) in
-    (listed 32 p (omega arith) (omega arith) (held-rows s .0), (omega (arith, b .room), Code.Rising.none))
+    let s = begun (c .before) in
+    (listed 32 (now (s .args .positions)) (omega arith), (omega (arith, s .pre .1 .room), Code.Rising.none))
 
 gather-requires-2 : tie.Need-gather-requires-2
 gather-requires-2 c κs =
     let g = c .before .before .before in
-    let b = g .before .before .before .before .before .before .before .before .before .pre .1 in
-    let t = now (g .before .before .before .before .before .before .before .before .before .args .targets) in
-    (listed 24 t (omega arith) (omega arith) (target-rows (g .before .before) .0), (omega (arith, some-most g, b .room, g .gather .kept .1 .1 .1 .0), g .gather .ensures .rising))
+    let s = begun (g .before .before) in
+    (listed 24 (now (s .args .targets)) (omega arith), (omega (arith, some-most g, s .pre .1 .room, g .gather .kept .1 .1 .1 .0), g .gather .ensures .rising))
 
 last-values-requires : tie.Need-last-values-requires
 last-values-requires c κs =
     let k = c .before .before .before .before in
-    let s = k .before .before .before .before .before .before .before .before .before .before .before .before .before in
-    (listed 32 (now (s .args .positions)) (omega arith) (omega arith) (held-rows (k .before .before .before .before .before .before) .0), (omega (arith, all-room k, all-size k), (value-room k (now (s .args .quantities)) (s .pre .1 .quantities), k .gather2 .ensures .rising)))
+    let s = begun (known k) in
+    (listed 32 (now (s .args .positions)) (omega arith), (word-room k, (value-room k (now (s .args .quantities)) (s .pre .1 .quantities), k .gather2 .ensures .rising)))
 
 last-values-requires-2 : tie.Need-last-values-requires-2
 last-values-requires-2 c κs =
     let k = c .before .before .before .before .before .before .before .before .before in
-    let s = k .before .before .before .before .before .before .before .before .before .before .before .before .before in
-    (listed 24 (now (s .args .targets)) (omega arith) (omega arith) (target-rows (k .before .before .before .before .before .before) .0), (omega (arith, all-room k, all-size k), (value-room k (now (s .args .weights)) (s .pre .1 .weights), k .gather2 .ensures .rising)))
+    let s = begun (known k) in
+    (listed 24 (now (s .args .targets)) (omega arith), (word-room k, (value-room k (now (s .args .weights)) (s .pre .1 .weights), k .gather2 .ensures .rising)))
 
 last-values-requires-3 : tie.Need-last-values-requires-3
 last-values-requires-3 c κs =
     let k = c .before .before .before .before .before .before .before .before .before .before .before .before .before .before in
-    let s = k .before .before .before .before .before .before .before .before .before .before .before .before .before in
-    (listed 24 (now (s .args .prices)) (omega arith) (omega arith) (price-rows (k .before .before .before .before .before .before) .0), (omega (arith, all-room k, all-size k), (value-room k (now (s .args .costs)) (s .pre .1 .costs), k .gather2 .ensures .rising)))
+    let s = begun (known k) in
+    (listed 24 (now (s .args .prices)) (omega arith), (word-room k, (value-room k (now (s .args .costs)) (s .pre .1 .costs), k .gather2 .ensures .rising)))
 
 same-length : tie.Need-same-length
 same-length c = search needs
@@ -122,10 +117,9 @@ same-length-4 c = search needs
 returns : tie.Need-returns
 returns c =
     let k = c .before .before .before .before .before .before .before .before .before .before .before .before .before .before .before .before .before in
-    let g = k .before .before .before .before in
-    let s = k .before .before .before .before .before .before in
-    let a = k .before .before .before .before .before .before .before .before .before .before .before .before .before .args in
-    let b = k .before .before .before .before .before .before .before .before .before .before .before .before .before .pre .1 in
+    let s = known k in
+    let a = begun s .args in
+    let b = begun s .pre .1 in
     let quantity = c .before .before .before .before .before .before .before .before .before .before .before .before .last-values in
     let weight = c .before .before .before .before .before .before .before .last-values2 in
     let cost = c .before .before .last-values3 in
@@ -133,22 +127,22 @@ returns c =
     let rt = rowsIn 24 (now (a .targets)) in
     let rq = rowsIn 24 (now (a .prices)) in
     let n = k .gather2 .result in
-    let ws = k .gather2 .last .1 .1 .1 .0 in
+    let ks = k .gather2 .last .1 .1 .1 .0 in
     let us = quantity .last .1 .1 .1 .1 .1 .0 in
     let ts = weight .last .1 .1 .1 .1 .1 .0 in
     let cs = cost .last .1 .1 .1 .1 .1 .0 in
-    let sorted = k .gather2 .ensures .sorted ∙ ap (λ (z : List ℕ). sortedWith keyFirst z (wordsOf rt)) (g .gather .ensures .sorted) in (
+    let sorted = k .gather2 .ensures .sorted ∙ ap (λ (z : List ℕ). sortedWith ltb z (keysOf rt)) (k .before .before .before .before .gather .ensures .sorted) in (
       record {
-        most = all-few k;
-        words = omega (arith, all-room k, all-size k);
+        most = omega (arith, all-most k, held-rows s .0, target-rows s .0);
+        keys = word-room k;
         quantities = omega (arith, value-room k (now (a .quantities)) (b .quantities), quantity .kept .1 .1 .1 .1 .1 .0);
         weights = omega (arith, value-room k (now (a .weights)) (b .weights), weight .kept .1 .1 .1 .1 .1 .0);
         costs = omega (arith, value-room k (now (a .costs)) (b .costs), cost .kept .1 .1 .1 .1 .1 .0);
       },
-      lines-are rp rt rq (held-rows s .1) (target-rows s .1) (price-rows s .1) ws us ts cs n (length (now (a .words))) (omega (arith, all-room k, all-size k)) (all-room k) sorted
-          (subst (λ (z : List ℕ). Noted ws n rp z us) (b .quantities) (quantity .ensures))
-          (subst (λ (z : List ℕ). Noted ws n rt z ts) (b .weights) (weight .ensures))
-          (subst (λ (z : List ℕ). Noted ws n rq z cs) (b .costs) (cost .ensures)),
+      lines-are rp rt rq (held-rows s .1) (target-rows s .1) (price-rows s .1) ks us ts cs n (length (now (a .keys))) (word-room k) (all-room k) sorted
+          (subst (λ (z : List ℕ). Noted ks n rp z us) (b .quantities) (quantity .ensures))
+          (subst (λ (z : List ℕ). Noted ks n rt z ts) (b .weights) (weight .ensures))
+          (subst (λ (z : List ℕ). Noted ks n rq z cs) (b .costs) (cost .ensures)),
     )
 
 pub lines-spec : {M : Type 1} → statement M

@@ -12,28 +12,28 @@ use lib.ListN.{length, getD, set, length-set}
 use Rattle.drift.proofs.Opened.{opened, open-first, open-step}
 
 abbrev Inv-loop : tie.InvT-loop
-Inv-loop words₀ n j₀ words j = (length words ≡ length words₀) × (j ≤ n) × (words ≡ opened words₀ n j)
+Inv-loop keys₀ n j₀ keys j = (length keys ≡ length keys₀) × (j ≤ n) × (keys ≡ opened keys₀ n j)
 
 abbrev μ-loop : tie.MeasureT-loop
-μ-loop words₀ n j₀ words j = j
+μ-loop keys₀ n j₀ keys j = j
 
 loop-holds : tie.Need-loop-holds Inv-loop μ-loop
-loop-holds c = (refl, omega arith, open-first (now (c .args .words)) (c .args .n) (omega arith))
+loop-holds c = (refl, omega arith, open-first (now (c .args .keys)) (c .args .n) (omega arith))
 
-sub-words : tie.Need-sub-words Inv-loop μ-loop
-sub-words c = search needs
+sub-keys : tie.Need-sub-keys Inv-loop μ-loop
+sub-keys c = search needs
 
-mul-words : tie.Need-mul-words Inv-loop μ-loop
-mul-words c = search needs
+mul-keys : tie.Need-mul-keys Inv-loop μ-loop
+mul-keys c = search needs
 
-slice-read-words : tie.Need-slice-read-words Inv-loop μ-loop
-slice-read-words c = search needs
+slice-read-keys : tie.Need-slice-read-keys Inv-loop μ-loop
+slice-read-keys c = search needs
 
-mul-words-2 : tie.Need-mul-words-2 Inv-loop μ-loop
-mul-words-2 c = search needs
+mul-keys-2 : tie.Need-mul-keys-2 Inv-loop μ-loop
+mul-keys-2 c = search needs
 
-slice-write-words : tie.Need-slice-write-words Inv-loop μ-loop
-slice-write-words c = search needs
+slice-write-keys : tie.Need-slice-write-keys Inv-loop μ-loop
+slice-write-keys c = search needs
 
 sub-j : tie.Need-sub-j Inv-loop μ-loop
 sub-j c = search needs
@@ -45,8 +45,8 @@ loop-again : tie.Need-loop-again Inv-loop μ-loop
 loop-again c =
     let l = c .before .before .loop in
     let a = c .before .before .before .args in
-    let d = now (a .words) in (
-      length-set (l .words) (l .j) _ ∙ l .inv .0,
+    let d = now (a .keys) in (
+      length-set (l .keys) (l .j) _ ∙ l .inv .0,
       omega arith,
       ap (λ (t : List ℕ). set t (l .j) (getD t (l .j - 1) 0)) (l .inv .2) ∙ open-step d (a .n) (l .j) (omega arith) (omega arith) (omega arith),
     )
@@ -59,7 +59,7 @@ returns c =
     let l = c .before .loop in
     let a = c .before .before .args in
     let e : l .j ≡ 0 = omega arith in
-    l .inv .2 ∙ ap (opened (now (a .words)) (a .n)) e ∙ rw (sub-zero (a .n))
+    l .inv .2 ∙ ap (opened (now (a .keys)) (a .n)) e ∙ rw (sub-zero (a .n))
 
 pub move-up-spec : {M : Type 1} → statement M
 move-up-spec =
@@ -68,11 +68,11 @@ move-up-spec =
     Inv-loop
     μ-loop
     loop-holds
-    sub-words
-    mul-words
-    slice-read-words
-    mul-words-2
-    slice-write-words
+    sub-keys
+    mul-keys
+    slice-read-keys
+    mul-keys-2
+    slice-write-keys
     sub-j
     loop-less
     loop-again

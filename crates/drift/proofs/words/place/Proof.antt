@@ -2,38 +2,62 @@
 use borrow.Author.Needs.{needs}
 use Rattle.drift.proofs.words.place.Statement.{statement}
 use Rattle.drift.proofs.words.place.Tie as tie
+use Prim.Native.Nat.{_+_, _/_}
+use native.Mathlib.Omega.{arith}
 use denote.Ref.{now}
 use Rattle.drift.specs.Code.{Within}
-use Rattle.drift.proofs.Halves.{at-first, at-last}
+use Rattle.drift.proofs.Halves.{halved}
 
 abbrev Inv-loop : tie.InvT-loop
-Inv-loop words n x low₀ size₀ low size = Within words n x low size
+Inv-loop keys n x low₀ size₀ low size = Within keys n x low (low + size)
 
 abbrev μ-loop : tie.MeasureT-loop
-μ-loop words n x low₀ size₀ low size = size
+μ-loop keys n x low₀ size₀ low size = size
 
 loop-holds : tie.Need-loop-holds Inv-loop μ-loop
-loop-holds c = let a = c .before .args in at-first (now (a .words)) (a .n) (a .x)
+loop-holds c = record { least = omega arith; most = omega arith; below = λ i l. absurd (omega arith); above = λ i l m. absurd (omega arith) }
 
-nearer-requires : tie.Need-nearer-requires Inv-loop μ-loop
-nearer-requires c κs =
-    let s = c .before .before .before in
-    (s .pre .0, (s .pre .1, (c .loop-test .taken, c .before .loop .inv)))
+sub-half : tie.Need-sub-half Inv-loop μ-loop
+sub-half c = search needs
+
+add-step : tie.Need-add-step Inv-loop μ-loop
+add-step c = search needs
+
+sub-step : tie.Need-sub-step Inv-loop μ-loop
+sub-step c = search needs
+
+mul-step : tie.Need-mul-step Inv-loop μ-loop
+mul-step c = search needs
+
+shared-slice-read-step : tie.Need-shared-slice-read-step Inv-loop μ-loop
+shared-slice-read-step c = search needs
+
+step-requires : tie.Need-step-requires Inv-loop μ-loop
+step-requires c κs = search needs
+
+half-left : (c : tie.After-step Inv-loop μ-loop)
+    → let l = c .before .before .before .loop in
+    let a = c .before .before .before .before .before .args in
+    Within (now (a .keys)) (a .n) (a .x) (l .low + c .step .result) (l .low + c .step .result + l .size / 2)
+half-left c =
+    let t = c .before .before in
+    let l = t .before .loop in
+    let s = t .before .before .before in
+    halved (now (s .args .keys)) (s .args .n) (s .pre .0) (s .pre .1) (s .args .x) (l .low) (l .size) (t .loop-test .taken) (l .inv) (c .step .result) (c .step .ensures)
+
+add-low : tie.Need-add-low Inv-loop μ-loop
+add-low c = record { fits = omega (arith, half-left c .least, half-left c .most) }
 
 loop-less : tie.Need-loop-less Inv-loop μ-loop
 loop-less c = search needs
 
 loop-again : tie.Need-loop-again Inv-loop μ-loop
-loop-again c = c .nearer .ensures
-
-settled-requires : tie.Need-settled-requires Inv-loop μ-loop
-settled-requires c κs =
-    let s = c .before .before .before in
-    let l = c .before .loop in
-    (s .pre .0, (s .pre .1, at-last (now (s .args .words)) (s .args .n) (s .args .x) (l .low) (l .size) (c .loop-test .left) (l .inv)))
+loop-again c = half-left c
 
 returns : tie.Need-returns Inv-loop μ-loop
-returns c = c .settled .ensures
+returns c =
+    let w = c .before .loop .inv in
+    record { least = omega arith; most = omega (arith, w .most); below = w .below; above = λ i l. w .above i (omega arith) }
 
 pub place-spec : {M : Type 1} → statement M
 place-spec =
@@ -42,8 +66,13 @@ place-spec =
     Inv-loop
     μ-loop
     loop-holds
-    nearer-requires
+    sub-half
+    add-step
+    sub-step
+    mul-step
+    shared-slice-read-step
+    step-requires
+    add-low
     loop-less
     loop-again
-    settled-requires
     returns)

@@ -9,16 +9,10 @@ use lib.IntN.{pos, negsuc, negℤ}
 use lib.Ieee.{Float, nan, inf, fin, up, down, lt, le, toSigned}
 use lib.Ieee.Fits.{down-pos}
 use borrow.Author.Tests.{ltb-false, eqb-false, lt-ltb}
+use Rattle.float.specs.Bits.{lowest, past}
 
 never : {A : Type 0} → true ≡ false → A
 never e = absurd (subst T e tt)
-
--- -2 ^ 63 and 2 ^ 63
-abbrev pub lowest : Float
-lowest = fin true 1 (pos 63)
-
-abbrev pub past : Float
-past = fin false 1 (pos 63)
 
 or-false : (a b : Bool) → a || b ≡ false → (a ≡ false) × (b ≡ false)
 or-false true b e = never e

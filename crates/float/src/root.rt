@@ -12,9 +12,9 @@ use crate::bits::to_bits;
 use crate::parts::parts_of;
 
 // The digits of a root so far, and what is left of the number above their square.
-pub struct Digits {
-    pub root: u64,
-    pub left: u64,
+struct Digits {
+    root: u64,
+    left: u64,
 }
 
 // One more digit of a root, of a number that is four times as large and pair more.

@@ -1,4 +1,4 @@
--- The sheet's two lists, as a loop over their records reads them, and what a sound sheet is known to hold.
+-- The sheet's orders, as a loop over their records reads them, and what a sound sheet is known to hold.
 -- Assumes nothing.
 use Prim.Native.Nat.{ℕ, zero, suc, _+_, _*_, _≤_, _<_}
 use mathlib.Core.Path.{_≡_, refl, sym, subst, _∙_}
@@ -33,7 +33,7 @@ pub state-number : (s : List ℕ) → leb (le 8 (drop 16 s)) 5 ≡ brokerOrderOk
 unfolding brokerOrderOk
 state-number s = rw (le-add 4 4 (drop 16 s), drop-drop 4 16 s) (low-only (le 4 (drop 16 s)) (le 4 (drop 20 s)))
 
--- ---- the records from index i on: the one there, and those behind it
+-- ---- the records from index i on: the one there, and those after it
 records-from : {A : Type 0} (g : List ℕ → A) (w n i : ℕ) (s : List ℕ) → i < n
     → drop i (records g w n s) ≡ g (drop (w * i) s) ∷ drop (suc i) (records g w n s)
 unfolding records
@@ -51,17 +51,6 @@ module _ (s : List ℕ) (i : ℕ) where
   pub orders-end : orderCount s ≤ i → drop i (sheetOrders s) ≡ []
   unfolding sheetOrders
   orders-end h = drop-of-length-le (sheetOrders s) {i = i} (rw (length-records brokerOrderOf 24 (orderCount s) (drop 24 s)) h)
-
-  pub positions-step : i < positionCount s
-      → drop i (sheetPositions s) ≡ brokerPositionOf (drop (24 + 24 * orderCount s + 24 * i) s) ∷ drop (i + 1) (sheetPositions s)
-  unfolding sheetPositions
-  positions-step h =
-      rw add-one
-      (records-from brokerPositionOf 24 (positionCount s) i (drop (24 + 24 * orderCount s) s) h ∙ rw (drop-drop (24 * i) (24 + 24 * orderCount s) s))
-
-  pub positions-end : positionCount s ≤ i → drop i (sheetPositions s) ≡ []
-  unfolding sheetPositions
-  positions-end h = drop-of-length-le (sheetPositions s) {i = i} (rw (length-records brokerPositionOf 24 (positionCount s) (drop (24 + 24 * orderCount s) s)) h)
 
 -- ---- what a sound sheet holds
 broken-no : (b : Bool) (y : Layout) → brokenIf b y ≡ Sound → (b ≡ false) × (y ≡ Sound)

@@ -8,7 +8,7 @@ ghost use lib.ListN.{drop};
 ghost use Rattle.wire.specs.Table.{every};
 ghost use Rattle.symbol.specs.Symbol.{wideFieldOk};
 ghost use Rattle.types.specs.Order.{stateOf};
-ghost use Rattle.sheet.specs.Sheet.{orderCount, positionCount, ordersFailed, positionsFailed, stateIn, brokerOrderOf, brokerPositionOf, brokerOrderOk, offsetsOk, markOk, headerOk, partsOk, sheetLayout};
+ghost use Rattle.sheet.specs.Sheet.{orderCount, positionCount, ordersFailed, stateIn, brokerOrderOf, brokerPositionOf, brokerOrderOk, offsetsOk, markOk, headerOk, partsOk, sheetLayout};
 use symbol::Symbol;
 use types::order::NumberedState;
 use types::order::OrderId;
@@ -39,17 +39,11 @@ pub fn position_count(sheet: &[u8]) -> u32
     wire::u32_at(sheet, 8)
 }
 
-// Whether the broker failed to list its orders, and its positions.
+// Whether the broker failed to list its orders.
 pub fn orders_failed(sheet: &[u8]) -> bool
     ensures { λ r. ⌜ r ≡ ordersFailed (now (sheet .entry)) ⌝ }
 {
     wire::u32_at(sheet, 16) == 1
-}
-
-pub fn positions_failed(sheet: &[u8]) -> bool
-    ensures { λ r. ⌜ r ≡ positionsFailed (now (sheet .entry)) ⌝ }
-{
-    wire::u32_at(sheet, 20) == 1
 }
 
 // The state that a number names; a number that names none stands in no sheet that is sound.
@@ -63,7 +57,7 @@ fn state_of(n: u32) -> OrderState
 }
 
 // The order at the front of a slice, and that of a sheet's table at index `i`, counted from 0.
-pub fn order_of(s: &[u8]) -> BrokerOrderStatus
+fn order_of(s: &[u8]) -> BrokerOrderStatus
     ensures { λ r. ⌜ r ≡ brokerOrderOf (now (s .entry)) ⌝ }
 {
     let id = OrderId(wire::u64_of(s));
@@ -82,7 +76,7 @@ pub fn order_at(sheet: &[u8], i: u32) -> BrokerOrderStatus
 }
 
 // The position at the front of a slice, and that of a sheet's table at index `i`, counted from 0.
-pub fn position_of(s: &[u8]) -> BrokerPosition
+fn position_of(s: &[u8]) -> BrokerPosition
     ensures { λ r. ⌜ r ≡ brokerPositionOf (now (s .entry)) ⌝ }
 {
     let symbol = Symbol::of_field(s);

@@ -1,41 +1,20 @@
 -- The order of symbols, by the bytes of their numbers.
 -- Assumes nothing.
-use Prim.Native.Nat.{ℕ, zero, suc, _-_, _%_, _/_, _≤_, _<_}
+use Prim.Native.Nat.{ℕ, zero, suc, _≤_, _<_}
 use mathlib.Core.Path.{_≡_, sym, subst}
 use mathlib.Core.Bool.{Bool, true, false}
 use mathlib.Core.List.{List, [], _∷_}
 use native.Mathlib.Nat.{not-suc-le-zero, le-of-suc-le-suc}
 use native.Mathlib.Omega.{arith}
 use lib.Dec.{T}
-use borrow.Author.Tests.{lt-ltb, le-ltb, eq-eqb, ne-eqb}
+use borrow.Author.Tests.{lt-ltb, le-ltb, ne-eqb}
 use lib.ListN.{length}
-use Rattle.wire.specs.Le.{bytesOf}
 use Rattle.wire.specs.Table.{padded}
 use Rattle.wire.proofs.Records.{padded-none}
-use Rattle.wire.proofs.Written.{Bytes, bytesOf-less, bytesOf-none}
+use Rattle.wire.proofs.Written.{Bytes}
 use Rattle.symbol.specs.Symbol.{symbolWidth, symbolByte, allOf, parses, symbolOf, bytesBefore, before}
 use Rattle.wire.proofs.Bools.{and-left, and-right}
 use Rattle.symbol.proofs.Text.{padded-nil, padded-cons, text-bytes, parses-most, parses-bytes}
-
--- ---- one turn of the loop: the lowest byte of each decides, or the bytes above it
-pub before-less : (n x y : ℕ) → 0 < n → x % 256 < y % 256 → bytesBefore (bytesOf n x) (bytesOf n y) ≡ true
-unfolding bytesBefore
-before-less n x y h l = rw (bytesOf-less n x h, bytesOf-less n y h, lt-ltb (x % 256) (y % 256) l)
-
-pub before-more : (n x y : ℕ) → 0 < n → y % 256 < x % 256 → bytesBefore (bytesOf n x) (bytesOf n y) ≡ false
-unfolding bytesBefore
-before-more n x y h l =
-    rw (bytesOf-less n x h, bytesOf-less n y h, le-ltb (x % 256) (y % 256) (omega arith), ne-eqb (x % 256) (y % 256) (λ e. omega arith))
-
-pub before-goes : (n x y : ℕ) → 0 < n → y % 256 ≤ x % 256 → x % 256 ≤ y % 256
-    → bytesBefore (bytesOf n x) (bytesOf n y) ≡ bytesBefore (bytesOf (n - 1) (x / 256)) (bytesOf (n - 1) (y / 256))
-unfolding bytesBefore
-before-goes n x y h l m =
-    rw (bytesOf-less n x h, bytesOf-less n y h, le-ltb (x % 256) (y % 256) l, eq-eqb (x % 256) (y % 256) (omega arith))
-
-pub before-none : (n x y : ℕ) → n ≤ 0 → bytesBefore (bytesOf n x) (bytesOf n y) ≡ false
-unfolding bytesBefore
-before-none n x y h = rw (bytesOf-none n x h, bytesOf-none n y h)
 
 -- ---- the order of texts: zeros behind a text change nothing, since no byte of a symbol is 0
 zeros-last : (n : ℕ) → bytesBefore (padded n []) (padded n []) ≡ false

@@ -1,10 +1,10 @@
-// Symbols: 1 to 8 bytes of A to Z, 0 to 9, '.' and '-'. Parsed from a text, read from a zero-padded field, compared, ordered, written.
+// Symbols: 1 to 8 bytes of A to Z, 0 to 9, '.' and '-'. Parsed from a text, read from a zero-padded field, compared, written.
 //
 // A symbol is held as one number, its bytes least first, and its length, so that comparing and writing are number work. The contracts
 // cite `specs/Symbol.antt`, which states its bytes. Nothing here has a `requires`.
 ghost use mathlib.Core.Path.{_≡_};
 ghost use lib.Seq.{sets};
-ghost use Rattle.symbol.specs.Symbol.{symbolByte, parsed, unknownSymbol, symbolIs, sameSymbol, before, fieldSymbol, fieldOk, wideFieldOk, fieldBytes, wideFieldBytes};
+ghost use Rattle.symbol.specs.Symbol.{symbolByte, parsed, unknownSymbol, sameSymbol, fieldSymbol, fieldOk, wideFieldOk, wideFieldBytes};
 
 pub struct Symbol {
     pub word: u64,
@@ -77,16 +77,6 @@ impl Symbol {
         }
     }
 
-    // Whether the symbol's text is `t`.
-    pub fn is_text(self, t: &[u8]) -> bool
-        ensures { λ r. ⌜ r ≡ symbolIs self (now (t .entry)) ⌝ }
-    {
-        if (self.len as usize) != t.len() {
-            return false;
-        }
-        self.word == wire::u64_of(t)
-    }
-
     // Whether two symbols are one.
     pub fn same(self, other: Symbol) -> bool
         ensures { λ r. ⌜ r ≡ sameSymbol self other ⌝ }
@@ -95,29 +85,6 @@ impl Symbol {
             return false;
         }
         self.len == other.len
-    }
-
-    // Whether the symbol stands before another: the first byte that differs decides.
-    pub fn before(self, other: Symbol) -> bool
-        ensures { λ r. ⌜ r ≡ before self other ⌝ }
-    {
-        let mut a = self.word;
-        let mut b = other.word;
-        let mut left: u64 = 8;
-        while 0 < left {
-            let x = a % 256;
-            let y = b % 256;
-            if x < y {
-                return true;
-            }
-            if y < x {
-                return false;
-            }
-            a = a / 256;
-            b = b / 256;
-            left -= 1;
-        }
-        false
     }
 }
 
@@ -154,17 +121,7 @@ pub fn wide_field_ok(s: &[u8]) -> bool
     wire::u64_at(s, 8) < 256
 }
 
-// Writes the field of nine bytes, and that of sixteen.
-pub fn put_field(d: &mut [u8], at: usize, y: Symbol)
-    ensures { λ _. ⌜ now (d .exit) ≡ sets (now (d .entry)) at (fieldBytes y) ⌝ }
-{
-    if d.len() <= at {
-        return;
-    }
-    wire::put(d, at, 8, y.word);
-    wire::put(d, at + 8, 1, y.len as u64);
-}
-
+// Writes the field of sixteen bytes.
 pub fn put_wide_field(d: &mut [u8], at: usize, y: Symbol)
     ensures { λ _. ⌜ now (d .exit) ≡ sets (now (d .entry)) at (wideFieldBytes y) ⌝ }
 {

@@ -4,6 +4,7 @@ use mathlib.Core.Bool.{Bool, true, false, _&&_}
 use lib.IntN.{ℤ, pos}
 use lib.Ieee.{Float, nan, inf, fin, Format, binary64, up, down, round, mul, le, lt, ofInt, toSigned}
 use Rattle.float.specs.Bits.{isFinite}
+pub use Rattle.float.specs.Bits.{lowest, past}
 use Rattle.types.specs.declared.fixed.Fixed.{Fixed}
 use Rattle.types.specs.declared.fixed.Fixed.the-variants.{Value, NotFinite, OutOfRange}
 
@@ -17,13 +18,6 @@ unfolding round
 roundAway f nan = nan
 roundAway f (inf s) = inf s
 roundAway f (fin s m e) = round f s (away (m * up e) (down e)) 1
-
--- -2 ^ 63 and 2 ^ 63
-abbrev pub lowest : Float
-lowest = fin true 1 (pos 63)
-
-abbrev pub past : Float
-past = fin false 1 (pos 63)
 
 -- "range from -2^63 up to but excluding 2^63", and the cast
 abbrev pub valueIf : Bool → ℤ → Fixed

@@ -14,18 +14,12 @@ returns : tie.Need-returns
 unfolding sheetLayout
 returns c = rw (lt-ltb (length (now (c .before .before .args .sheet))) 24 (c .if1 .taken))
 
-order-count-requires : tie.Need-order-count-requires
-order-count-requires c κs = search needs
-
 returns-2 : tie.Need-returns-2
 unfolding sheetLayout
 returns-2 c =
     let s = now (c .before .before .before .before .args .sheet) in
     let o = c .before .order-count .ensures in
     rw (le-ltb (length s) 24 (c .before .before .if1 .left), lt-ltb 1024 (orderCount s) (omega arith))
-
-position-count-requires : tie.Need-position-count-requires
-position-count-requires c κs = search needs
 
 returns-3 : tie.Need-returns-3
 unfolding sheetLayout
@@ -38,12 +32,6 @@ returns-3 c =
       le-ltb 1024 (orderCount s) (omega arith),
       lt-ltb 1024 (positionCount s) (omega arith),
     )
-
-parts-ok-requires : tie.Need-parts-ok-requires
-parts-ok-requires c κs = search needs
-
-sound-if-requires : tie.Need-sound-if-requires
-sound-if-requires c κs = search needs
 
 returns-4 : tie.Need-returns-4
 unfolding sheetLayout
@@ -61,12 +49,4 @@ returns-4 c =
 pub check-spec : {M : Type 1} → statement M
 check-spec =
     tie.close
-    (tie.spec
-    returns
-    order-count-requires
-    returns-2
-    position-count-requires
-    returns-3
-    parts-ok-requires
-    sound-if-requires
-    returns-4)
+    (tie.spec returns (λ c κs. search needs) returns-2 (λ c κs. search needs) returns-3 (λ c κs. search needs) (λ c κs. search needs) returns-4)

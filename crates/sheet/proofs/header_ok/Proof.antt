@@ -10,21 +10,6 @@ use Rattle.sheet.specs.Sheet.{orderCount, positionCount, offsetsOk, mark
 use Rattle.sheet.proofs.header_ok.Statement.{statement}
 use Rattle.sheet.proofs.header_ok.Tie as tie
 
-u32-of-requires : tie.Need-u32-of-requires
-u32-of-requires c κs = search needs
-
-u32-at-requires : tie.Need-u32-at-requires
-u32-at-requires c κs = search needs
-
-u32-at-requires-2 : tie.Need-u32-at-requires-2
-u32-at-requires-2 c κs = search needs
-
-u32-at-requires-3 : tie.Need-u32-at-requires-3
-u32-at-requires-3 c κs = search needs
-
-offsets-ok-requires : tie.Need-offsets-ok-requires
-offsets-ok-requires c κs = search needs
-
 returns : tie.Need-returns
 unfolding headerOk
 returns c =
@@ -32,12 +17,6 @@ returns c =
     let n = not-true (c .before .offsets-ok .result) (c .if1 .taken) in
     let o : offsetsOk (orderCount s) (le 4 (drop 4 s)) (positionCount s) (le 4 (drop 12 s)) (length s) ≡ false = cc in
     rw o
-
-u32-at-requires-4 : tie.Need-u32-at-requires-4
-u32-at-requires-4 c κs = search needs
-
-mark-ok-requires : tie.Need-mark-ok-requires
-mark-ok-requires c κs = search needs
 
 returns-2 : tie.Need-returns-2
 unfolding headerOk
@@ -48,12 +27,6 @@ returns-2 c =
     let o : offsetsOk (orderCount s) (le 4 (drop 4 s)) (positionCount s) (le 4 (drop 12 s)) (length s) ≡ true = cc in
     let m : markOk (le 4 (drop 16 s)) (orderCount s) ≡ false = cc in
     rw (o, m)
-
-u32-at-requires-5 : tie.Need-u32-at-requires-5
-u32-at-requires-5 c κs = search needs
-
-mark-ok-requires-2 : tie.Need-mark-ok-requires-2
-mark-ok-requires-2 c κs = search needs
 
 returns-3 : tie.Need-returns-3
 unfolding headerOk
@@ -68,16 +41,5 @@ returns-3 c =
 pub header-ok-spec : {M : Type 1} → statement M
 header-ok-spec =
     tie.close
-    (tie.spec
-    u32-of-requires
-    u32-at-requires
-    u32-at-requires-2
-    u32-at-requires-3
-    offsets-ok-requires
-    returns
-    u32-at-requires-4
-    mark-ok-requires
-    returns-2
-    u32-at-requires-5
-    mark-ok-requires-2
-    returns-3)
+    (tie.spec (λ c κs. search needs) (λ c κs. search needs) (λ c κs. search needs) (λ c κs. search needs) (λ c κs. search needs) returns
+    (λ c κs. search needs) (λ c κs. search needs) returns-2 (λ c κs. search needs) (λ c κs. search needs) returns-3)

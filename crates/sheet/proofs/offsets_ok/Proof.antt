@@ -10,21 +10,9 @@ returns : tie.Need-returns
 unfolding offsetsOk
 returns c = rw (ne-eqb (c .before .args .first) 24 (c .if1 .taken))
 
-mul-end : tie.Need-mul-end
-mul-end c = search needs
-
-add-end : tie.Need-add-end
-add-end c = search needs
-
 returns-2 : tie.Need-returns-2
 unfolding offsetsOk
 returns-2 c = let a = c .before .before .args in rw (eq-eqb (a .first) 24 (c .before .if1 .left), ne-eqb (a .second) (24 + 24 * a .orders) (c .if2 .taken))
-
-mul-result : tie.Need-mul-result
-mul-result c = search needs
-
-add-result : tie.Need-add-result
-add-result c = search needs
 
 returns-3 : tie.Need-returns-3
 unfolding offsetsOk
@@ -32,4 +20,5 @@ returns-3 c = let a = c .before .before .args in rw (eq-eqb (a .first) 24 (c .be
 
 pub offsets-ok-spec : {M : Type 1} → statement M
 offsets-ok-spec =
-    tie.close (tie.spec returns mul-end add-end returns-2 mul-result add-result returns-3)
+    tie.close
+    (tie.spec returns (λ c. search needs) (λ c. search needs) returns-2 (λ c. search needs) (λ c. search needs) returns-3)

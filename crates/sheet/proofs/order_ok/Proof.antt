@@ -6,14 +6,8 @@ use Rattle.sheet.proofs.Lists.{state-number}
 use Rattle.sheet.proofs.order_ok.Statement.{statement}
 use Rattle.sheet.proofs.order_ok.Tie as tie
 
-from-requires : tie.Need-from-requires
-from-requires c κs = search needs
-
-u64-at-requires : tie.Need-u64-at-requires
-u64-at-requires c κs = search needs
-
 returns : tie.Need-returns
 returns c = let a = c .before .before .before .args in rw (c .u64-at .ensures, c .before .from .ensures) (state-number (drop (a .at) (now (a .s))))
 
 pub order-ok-spec : {M : Type 1} → statement M
-order-ok-spec = tie.close (tie.spec from-requires u64-at-requires returns)
+order-ok-spec = tie.close (tie.spec (λ c κs. search needs) (λ c κs. search needs) returns)

@@ -6,11 +6,8 @@ use lib.Dec.{eqb}
 use Rattle.sheet.proofs.orders_failed.Statement.{statement}
 use Rattle.sheet.proofs.orders_failed.Tie as tie
 
-u32-at-requires : tie.Need-u32-at-requires
-u32-at-requires c κs = search needs
-
 returns : tie.Need-returns
 returns c = ap (λ (n : ℕ). eqb n 1) (c .u32-at .ensures)
 
 pub orders-failed-spec : {M : Type 1} → statement M
-orders-failed-spec = tie.close (tie.spec u32-at-requires returns)
+orders-failed-spec = tie.close (tie.spec (λ c κs. search needs) returns)

@@ -9,9 +9,6 @@ use Rattle.sheet.specs.Sheet.{orderCount, ordersIn, brokerOrderOk, heade
 use Rattle.sheet.proofs.parts_ok.Statement.{statement}
 use Rattle.sheet.proofs.parts_ok.Tie as tie
 
-header-ok-requires : tie.Need-header-ok-requires
-header-ok-requires c κs = search needs
-
 returns : tie.Need-returns
 unfolding partsOk
 returns c =
@@ -19,15 +16,6 @@ returns c =
     let n = not-true (c .before .header-ok .result) (c .if1 .taken) in
     let h : headerOk s ≡ false = cc in
     rw h
-
-order-count-requires : tie.Need-order-count-requires
-order-count-requires c κs = search needs
-
-from-requires : tie.Need-from-requires
-from-requires c κs = search needs
-
-orders-ok-requires : tie.Need-orders-ok-requires
-orders-ok-requires c κs = search needs
 
 returns-2 : tie.Need-returns-2
 unfolding partsOk
@@ -38,24 +26,6 @@ returns-2 c =
     let h : headerOk s ≡ true = cc in
     let o : every brokerOrderOk 24 (orderCount s) (ordersIn s) ≡ false = cc in
     rw (h, o)
-
-cast-from : tie.Need-cast-from
-cast-from c = search needs
-
-mul-from : tie.Need-mul-from
-mul-from c = search needs
-
-add-from : tie.Need-add-from
-add-from c = search needs
-
-from-requires-2 : tie.Need-from-requires-2
-from-requires-2 c κs = search needs
-
-position-count-requires : tie.Need-position-count-requires
-position-count-requires c κs = search needs
-
-positions-ok-requires : tie.Need-positions-ok-requires
-positions-ok-requires c κs = search needs
 
 returns-3 : tie.Need-returns-3
 unfolding partsOk
@@ -70,17 +40,5 @@ returns-3 c =
 pub parts-ok-spec : {M : Type 1} → statement M
 parts-ok-spec =
     tie.close
-    (tie.spec
-    header-ok-requires
-    returns
-    order-count-requires
-    from-requires
-    orders-ok-requires
-    returns-2
-    cast-from
-    mul-from
-    add-from
-    from-requires-2
-    position-count-requires
-    positions-ok-requires
-    returns-3)
+    (tie.spec (λ c κs. search needs) returns (λ c κs. search needs) (λ c κs. search needs) (λ c κs. search needs) returns-2 (λ c. search needs)
+    (λ c. search needs) (λ c. search needs) (λ c κs. search needs) (λ c κs. search needs) (λ c κs. search needs) returns-3)

@@ -20,12 +20,6 @@ abbrev μ-loop : tie.MeasureT-loop
 loop-holds : tie.Need-loop-holds Inv-loop μ-loop
 loop-holds c = (search needs, refl)
 
-from-requires : tie.Need-from-requires Inv-loop μ-loop
-from-requires c κs = search needs
-
-wide-field-ok-requires : tie.Need-wide-field-ok-requires Inv-loop μ-loop
-wide-field-ok-requires c κs = search needs
-
 returns : tie.Need-returns Inv-loop μ-loop
 returns c =
     let s = now (c .before .before .before .before .before .before .args .s) in
@@ -33,15 +27,6 @@ returns c =
     let r = c .before .wide-field-ok in
     let e = sym (ap wideFieldOk (c .before .before .from .ensures)) ∙ sym (r .ensures) ∙ not-true (r .result) (c .if1 .taken) in
     sym (l .inv .1 ∙ every-fails wideFieldOk 24 (l .left) (l .at) s (c .before .before .before .loop-test .taken) e)
-
-add-at : tie.Need-add-at Inv-loop μ-loop
-add-at c = search needs
-
-sub-left : tie.Need-sub-left Inv-loop μ-loop
-sub-left c = search needs
-
-loop-less : tie.Need-loop-less Inv-loop μ-loop
-loop-less c = search needs
 
 loop-again : tie.Need-loop-again Inv-loop μ-loop
 loop-again c =
@@ -59,15 +44,5 @@ returns-2 c =
 pub positions-ok-spec : {M : Type 1} → statement M
 positions-ok-spec =
     tie.close
-    (tie.spec
-    Inv-loop
-    μ-loop
-    loop-holds
-    from-requires
-    wide-field-ok-requires
-    returns
-    add-at
-    sub-left
-    loop-less
-    loop-again
-    returns-2)
+    (tie.spec Inv-loop μ-loop loop-holds (λ c κs. search needs) (λ c κs. search needs) returns (λ c. search needs) (λ c. search needs)
+    (λ c. search needs) loop-again returns-2)

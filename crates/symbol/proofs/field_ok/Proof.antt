@@ -16,9 +16,6 @@ Inv-loop s len left₀ rest₀ left rest = fieldOk s ≡ wordOk symbolByte left 
 abbrev μ-loop : tie.MeasureT-loop
 μ-loop s len left₀ rest₀ left rest = left
 
-u8-at-requires : tie.Need-u8-at-requires Inv-loop μ-loop
-u8-at-requires c κs = search needs
-
 returns : tie.Need-returns Inv-loop μ-loop
 returns c =
     let e = c .before .u8-at .ensures in
@@ -29,32 +26,17 @@ returns-2 c =
     let e = c .before .before .u8-at .ensures in
     sym (field-long (now (c .before .before .before .before .args .s)) (omega arith))
 
-u64-of-requires : tie.Need-u64-of-requires Inv-loop μ-loop
-u64-of-requires c κs = search needs
-
 loop-holds : tie.Need-loop-holds Inv-loop μ-loop
 loop-holds c =
     let s = now (c .before .before .before .before .before .args .s) in
     let e = c .before .before .before .u8-at .ensures in
     rw (c .u64-of .ensures, e) (field-word s (bytes-of s (c .before .before .before .before .shared-slice-known .given)) (omega arith) (omega arith))
 
-cast-symbol-byte : tie.Need-cast-symbol-byte Inv-loop μ-loop
-cast-symbol-byte c = search needs
-
-symbol-byte-requires : tie.Need-symbol-byte-requires Inv-loop μ-loop
-symbol-byte-requires c κs = search needs
-
 returns-3 : tie.Need-returns-3 Inv-loop μ-loop
 returns-3 c =
     let l = c .before .before .before .loop in
     let r = c .before .symbol-byte in
     sym (l .inv ∙ word-fails symbolByte (l .left) (l .rest) (c .before .before .loop-test .taken) (sym (r .ensures) ∙ not-true (r .result) (c .if3 .taken)))
-
-sub-left : tie.Need-sub-left Inv-loop μ-loop
-sub-left c = search needs
-
-loop-less : tie.Need-loop-less Inv-loop μ-loop
-loop-less c = search needs
 
 loop-again : tie.Need-loop-again Inv-loop μ-loop
 loop-again c =
@@ -70,18 +52,5 @@ returns-4 c =
 pub field-ok-spec : {M : Type 1} → statement M
 field-ok-spec =
     tie.close
-    (tie.spec
-    Inv-loop
-    μ-loop
-    u8-at-requires
-    returns
-    returns-2
-    u64-of-requires
-    loop-holds
-    cast-symbol-byte
-    symbol-byte-requires
-    returns-3
-    sub-left
-    loop-less
-    loop-again
-    returns-4)
+    (tie.spec Inv-loop μ-loop (λ c κs. search needs) returns returns-2 (λ c κs. search needs) loop-holds (λ c. search needs) (λ c κs. search needs)
+    returns-3 (λ c. search needs) (λ c. search needs) loop-again returns-4)

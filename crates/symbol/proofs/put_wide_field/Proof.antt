@@ -13,21 +13,6 @@ returns c =
     let a = c .before .before .args in
     sym (sets-past (now (a .d)) (a .at) (wideFieldBytes (a .y)) (c .if1 .taken))
 
-put-requires : tie.Need-put-requires
-put-requires c κs = search needs
-
-add-put : tie.Need-add-put
-add-put c = search needs
-
-cast-put : tie.Need-cast-put
-cast-put c = search needs
-
-put-requires-2 : tie.Need-put-requires-2
-put-requires-2 c κs = search needs
-
-same-length : tie.Need-same-length
-same-length c = search needs
-
 returns-2 : tie.Need-returns-2
 returns-2 c =
     let a = c .before .before .before .before .before .before .before .before .before .before .before .args in
@@ -35,4 +20,5 @@ returns-2 c =
 
 pub put-wide-field-spec : {M : Type 1} → statement M
 put-wide-field-spec =
-    tie.close (tie.spec returns put-requires add-put cast-put put-requires-2 same-length returns-2)
+    tie.close
+    (tie.spec returns (λ c κs. search needs) (λ c. search needs) (λ c. search needs) (λ c κs. search needs) (λ c. search needs) returns-2)

@@ -9,15 +9,9 @@ use Rattle.symbol.proofs.Field.{wide-zero}
 use Rattle.symbol.proofs.wide_field_ok.Statement.{statement}
 use Rattle.symbol.proofs.wide_field_ok.Tie as tie
 
-field-ok-requires : tie.Need-field-ok-requires
-field-ok-requires c κs = search needs
-
 returns : tie.Need-returns
 unfolding wideFieldOk
 returns c = rw (sym (c .before .field-ok .ensures) ∙ not-true (c .before .field-ok .result) (c .if1 .taken))
-
-u64-at-requires : tie.Need-u64-at-requires
-u64-at-requires c κs = search needs
 
 returns-2 : tie.Need-returns-2
 unfolding wideFieldOk
@@ -27,4 +21,6 @@ returns-2 c =
     rw (sym (r .ensures) ∙ not-false (r .result) (c .before .if1 .left), c .u64-at .ensures) (wide-zero s (bytes-of s (c .before .before .before .shared-slice-known .given)))
 
 pub wide-field-ok-spec : {M : Type 1} → statement M
-wide-field-ok-spec = tie.close (tie.spec field-ok-requires returns u64-at-requires returns-2)
+wide-field-ok-spec =
+    tie.close
+    (tie.spec (λ c κs. search needs) returns (λ c κs. search needs) returns-2)

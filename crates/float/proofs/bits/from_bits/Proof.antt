@@ -13,11 +13,8 @@ zero-by-zero = refl
 float-from-bits-result : tie.Need-float-from-bits-result
 float-from-bits-result c = pattern-fine (c .before .args .n) (c .if1 .taken)
 
-returns : tie.Need-returns
-returns c = search needs
-
 returns-2 : tie.Need-returns-2
 returns-2 c = zero-by-zero ∙ sym (pattern-nan (c .before .args .n) (c .if1 .left))
 
 pub from-bits-spec : {M : Type 1} → statement M
-from-bits-spec = tie.close (tie.spec float-from-bits-result returns returns-2)
+from-bits-spec = tie.close (tie.spec float-from-bits-result (λ c. search needs) returns-2)

@@ -9,9 +9,6 @@ use Rattle.float.proofs.Patterns.{finite-test}
 use Rattle.float.proofs.bits.is_finite.Statement.{statement}
 use Rattle.float.proofs.bits.is_finite.Tie as tie
 
-to-bits-requires : tie.Need-to-bits-requires
-to-bits-requires c κs = search needs
-
 -- an f64 is a value that the format holds
 held : (c : tie.Start) → T (fits binary64 (c .args .x))
 held c = subst T (sym (c .good .0 .1)) tt
@@ -22,4 +19,4 @@ returns c =
     ∙ ap isFinite (ap (ofBits binary64) (c .to-bits .ensures) ∙ ofBits-toBits binary64 (c .before .args .x) (held (c .before)))
 
 pub is-finite-spec : {M : Type 1} → statement M
-is-finite-spec = tie.close (tie.spec to-bits-requires returns)
+is-finite-spec = tie.close (tie.spec (λ c κs. search needs) returns)

@@ -7,11 +7,8 @@ use mir.ValLaws.{toZ-ofZ}
 use Rattle.float.proofs.bits.nearest_i64.Statement.{statement}
 use Rattle.float.proofs.bits.nearest_i64.Tie as tie
 
-nearest-i64-to-f64-requires : tie.Need-nearest-i64-to-f64-requires
-nearest-i64-to-f64-requires c κs = search needs
-
 returns : tie.Need-returns
 returns c = c .nearest-i64-to-f64 .ensures ∙ ap (ofInt binary64) (toZ-ofZ w64 (c .before .args .n) (c .before .fits .n))
 
 pub nearest-i64-spec : {M : Type 1} → statement M
-nearest-i64-spec = tie.close (tie.spec nearest-i64-to-f64-requires returns)
+nearest-i64-spec = tie.close (tie.spec (λ c κs. search needs) returns)

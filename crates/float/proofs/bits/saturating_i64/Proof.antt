@@ -11,9 +11,6 @@ truncating-f64-to-i64-requires : tie.Need-truncating-f64-to-i64-requires
 unfolding ofBits neg
 truncating-f64-to-i64-requires c κs = (subst T (sym (c .before .if1 .taken)) tt, subst T (sym (c .if2 .taken)) tt)
 
-returns : tie.Need-returns
-returns c = search needs
-
 returns-2 : tie.Need-returns-2
 unfolding ofBits neg
 returns-2 c = over (c .before .before .args .x) (c .before .if1 .taken) (c .if2 .left)
@@ -27,4 +24,6 @@ unfolding ofBits neg
 returns-4 c = neither (c .before .before .args .x) (c .before .if1 .left) (c .if3 .left)
 
 pub saturating-i64-spec : {M : Type 1} → statement M
-saturating-i64-spec = tie.close (tie.spec truncating-f64-to-i64-requires returns returns-2 returns-3 returns-4)
+saturating-i64-spec =
+    tie.close
+    (tie.spec truncating-f64-to-i64-requires (λ c. search needs) returns-2 returns-3 returns-4)

@@ -19,8 +19,5 @@ of-nan = refl
 returns : tie.Need-returns
 returns c = rw (differs-from-itself (c .before .args .x) (subst T (sym (c .if1 .taken)) tt)) of-nan
 
-returns-2 : tie.Need-returns-2
-returns-2 c = search needs
-
 pub to-bits-spec : {M : Type 1} → statement M
-to-bits-spec = tie.close (tie.spec float-to-bits-result returns returns-2)
+to-bits-spec = tie.close (tie.spec float-to-bits-result returns (λ c. search needs))

@@ -4,12 +4,6 @@ use Rattle.float.proofs.Decode.{parted-low, parted-mid}
 use Rattle.float.proofs.parts.parts_of.Statement.{statement}
 use Rattle.float.proofs.parts.parts_of.Tie as tie
 
-add-t7 : tie.Need-add-t7
-add-t7 c = search needs
-
-sub-t8 : tie.Need-sub-t8
-sub-t8 c = search needs
-
 returns : tie.Need-returns
 returns c = parted-low (c .before .args .n) (c .if1 .taken)
 
@@ -17,4 +11,4 @@ returns-2 : tie.Need-returns-2
 returns-2 c = parted-mid (c .before .args .n) (c .before .pre) (c .if1 .left)
 
 pub parts-of-spec : {M : Type 1} → statement M
-parts-of-spec = tie.close (tie.spec add-t7 sub-t8 returns returns-2)
+parts-of-spec = tie.close (tie.spec (λ c. search needs) (λ c. search needs) returns returns-2)

@@ -6,9 +6,6 @@ use Rattle.float.proofs.RootDigits.{root-long}
 use Rattle.float.proofs.root.digits_of.Statement.{statement}
 use Rattle.float.proofs.root.digits_of.Tie as tie
 
-first-digits-requires : tie.Need-first-digits-requires
-first-digits-requires c κs = search needs
-
 long : (c : tie.After-first-digits) → 0x2000 ≤ c .first-digits .result .root
 long c =
     let f = c .first-digits in
@@ -34,4 +31,5 @@ returns c =
 
 pub digits-of-spec : {M : Type 1} → statement M
 digits-of-spec =
-    tie.close (tie.spec first-digits-requires wide-digit-requires wide-digit-requires-2 returns)
+    tie.close
+    (tie.spec (λ c κs. search needs) wide-digit-requires wide-digit-requires-2 returns)

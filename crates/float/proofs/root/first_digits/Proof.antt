@@ -20,15 +20,6 @@ next-digit-requires c κs =
     let l = c .before .loop in
     (root-small (l .root) (l .i) (l .inv .1 .short) (c .loop-test .taken), (l .inv .1 .most, omega (arith, l .inv .1 .room)))
 
-mul-rest : tie.Need-mul-rest Inv-loop μ-loop
-mul-rest c = omega arith
-
-add-i : tie.Need-add-i Inv-loop μ-loop
-add-i c = omega arith
-
-loop-less : tie.Need-loop-less Inv-loop μ-loop
-loop-less c = omega arith
-
 loop-again : tie.Need-loop-again Inv-loop μ-loop
 loop-again c =
     let l = c .before .before .loop in
@@ -42,4 +33,6 @@ returns c =
     (ended _ (l .root) (l .left) (l .rest) (l .i) (l .inv .1) e, l .inv .1 .most, subst (λ (i : ℕ). l .root < 2 ^ i) e (l .inv .1 .short))
 
 pub first-digits-spec : {M : Type 1} → statement M
-first-digits-spec = tie.close (tie.spec Inv-loop μ-loop loop-holds next-digit-requires mul-rest add-i loop-less loop-again returns)
+first-digits-spec =
+    tie.close
+    (tie.spec Inv-loop μ-loop loop-holds next-digit-requires (λ c. omega arith) (λ c. omega arith) (λ c. omega arith) loop-again returns)

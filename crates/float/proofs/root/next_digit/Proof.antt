@@ -8,24 +8,6 @@ use Rattle.float.proofs.RootDigits.{Next, next}
 use Rattle.float.proofs.root.next_digit.Statement.{statement}
 use Rattle.float.proofs.root.next_digit.Tie as tie
 
-mul-left : tie.Need-mul-left
-mul-left c = search needs
-
-add-left : tie.Need-add-left
-add-left c = search needs
-
-mul-trial : tie.Need-mul-trial
-mul-trial c = search needs
-
-add-trial : tie.Need-add-trial
-add-trial c = search needs
-
-cast-digit : tie.Need-cast-digit
-cast-digit c = search needs
-
-mul-t7 : tie.Need-mul-t7
-mul-t7 c = search needs
-
 made : (c : tie.Start) → Next (c .args .root) (c .args .left) (c .args .pair) (boolByte (leb (4 * c .args .root + 1) (4 * c .args .left + c .args .pair)))
 made c = next (c .args .root) (c .args .left) (c .args .pair) (c .pre .1 .0) (c .pre .1 .1)
 
@@ -42,4 +24,7 @@ returns : tie.Need-returns
 returns c = (made c .all, made c .most, omega (arith, made c .one))
 
 pub next-digit-spec : {M : Type 1} → statement M
-next-digit-spec = tie.close (tie.spec mul-left add-left mul-trial add-trial cast-digit mul-t7 add-t9 mul-t10 sub-t11 returns)
+next-digit-spec =
+    tie.close
+    (tie.spec (λ c. search needs) (λ c. search needs) (λ c. search needs) (λ c. search needs) (λ c. search needs) (λ c. search needs) add-t9 mul-t10
+    sub-t11 returns)

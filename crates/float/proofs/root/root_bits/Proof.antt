@@ -11,23 +11,8 @@ use Rattle.float.proofs.RootPack.{shifted-le, shifted-lt, root-at}
 use Rattle.float.proofs.root.root_bits.Statement.{statement}
 use Rattle.float.proofs.root.root_bits.Tie as tie
 
-parts-of-requires : tie.Need-parts-of-requires
-parts-of-requires c κs = search needs
-
 shift-of-requires : tie.Need-shift-of-requires
 shift-of-requires c κs = (c .parts-of .ensures .some (omega arith), c .parts-of .ensures .small)
-
-add-e : tie.Need-add-e
-add-e c = search needs
-
-sub-e : tie.Need-sub-e
-sub-e c = search needs
-
-shl-digits-of : tie.Need-shl-digits-of
-shl-digits-of c = search needs
-
-add-digits-of : tie.Need-add-digits-of
-add-digits-of c = search needs
 
 -- d and z, and e
 abbrev wide : tie.After-struct-known → ℕ
@@ -44,21 +29,6 @@ mul-digits-of c = omega (arith, fits-54 c)
 
 digits-of-requires : tie.Need-digits-of-requires
 digits-of-requires c κs = (shifted-le (wide c) (power c) (c .before .shift-of .ensures .1) (c .before .shift-of .ensures .2), fits-54 c)
-
-sub-k : tie.Need-sub-k
-sub-k c = search needs
-
-mul-k : tie.Need-mul-k
-mul-k c = search needs
-
-add-result : tie.Need-add-result
-add-result c = search needs
-
-add-result-2 : tie.Need-add-result-2
-add-result-2 c = search needs
-
-add-result-3 : tie.Need-add-result-3
-add-result-3 c = search needs
 
 returns : tie.Need-returns
 returns c =
@@ -79,4 +49,7 @@ returns-2 c =
     (p .before .pre .0) (p .before .pre .1) (p .parts-of .ensures) (s .shift-of .ensures) (g .digits-of .ensures) (le-ltb _ _ (c .before .if1 .left))
 
 pub root-bits-spec : {M : Type 1} → statement M
-root-bits-spec = tie.close (tie.spec parts-of-requires shift-of-requires add-e sub-e shl-digits-of add-digits-of mul-digits-of digits-of-requires sub-k mul-k add-result add-result-2 add-result-3 returns returns-2)
+root-bits-spec =
+    tie.close
+    (tie.spec (λ c κs. search needs) shift-of-requires (λ c. search needs) (λ c. search needs) (λ c. search needs) (λ c. search needs) mul-digits-of
+    digits-of-requires (λ c. search needs) (λ c. search needs) (λ c. search needs) (λ c. search needs) (λ c. search needs) returns returns-2)

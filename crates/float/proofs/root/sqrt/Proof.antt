@@ -10,9 +10,6 @@ use Rattle.float.proofs.RootCases.{nought, above-none, top-root, zero-r
 use Rattle.float.proofs.root.sqrt.Statement.{statement}
 use Rattle.float.proofs.root.sqrt.Tie as tie
 
-to-bits-requires : tie.Need-to-bits-requires
-to-bits-requires c κs = search needs
-
 held : (c : tie.Start) → T (fits binary64 (c .args .x))
 held c = subst T (sym (c .good .0 .1)) tt
 
@@ -26,9 +23,6 @@ up c = ap (lt nought) (back c) ∙ c .before .if1 .taken
 
 root-bits-requires : tie.Need-root-bits-requires
 root-bits-requires c κs = (above-none (c .before .to-bits .result) (up (c .before)), c .if2 .taken)
-
-from-bits-requires : tie.Need-from-bits-requires
-from-bits-requires c κs = search needs
 
 returns : tie.Need-returns
 returns c =
@@ -51,4 +45,6 @@ unfolding ofBits
 returns-4 c = zero-by-zero ∙ no-root (c .before .before .args .x) (c .before .if1 .left) (c .if3 .left)
 
 pub sqrt-spec : {M : Type 1} → statement M
-sqrt-spec = tie.close (tie.spec to-bits-requires root-bits-requires from-bits-requires returns returns-2 returns-3 returns-4)
+sqrt-spec =
+    tie.close
+    (tie.spec (λ c κs. search needs) root-bits-requires (λ c κs. search needs) returns returns-2 returns-3 returns-4)

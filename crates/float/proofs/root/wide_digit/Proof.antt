@@ -32,18 +32,6 @@ mul-number c = record { fits = omega (arith, fit c .number) }
 add-number : tie.Need-add-number
 add-number c = record { fits = omega (arith, fit c .number) }
 
-mul-digit : tie.Need-mul-digit
-mul-digit c = search needs
-
-div-digit : tie.Need-div-digit
-div-digit c = search needs
-
-mul-above : tie.Need-mul-above
-mul-above c = search needs
-
-rem-above : tie.Need-rem-above
-rem-above c = search needs
-
 mul-above-2 : tie.Need-mul-above-2
 mul-above-2 c = record { fits = omega (arith, fit c .rest) }
 
@@ -89,22 +77,5 @@ returns-2 c =
 pub wide-digit-spec : {M : Type 1} → statement M
 wide-digit-spec =
     tie.close
-    (tie.spec
-    mul-number
-    add-number
-    mul-digit
-    div-digit
-    mul-above
-    rem-above
-    mul-above-2
-    add-above
-    mul-next
-    add-next
-    mul-square
-    returns
-    sub-t13
-    mul-t12
-    sub-t11
-    add-t16
-    sub-t17
-    returns-2)
+    (tie.spec mul-number add-number (λ c. search needs) (λ c. search needs) (λ c. search needs) (λ c. search needs) mul-above-2 add-above mul-next
+    add-next mul-square returns sub-t13 mul-t12 sub-t11 add-t16 sub-t17 returns-2)

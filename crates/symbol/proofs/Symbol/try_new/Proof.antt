@@ -47,15 +47,6 @@ loop-holds c =
     let t = now (c .before .before .before .args .text) in
     (search needs, rw (drop-length t), rw (drop-length t))
 
-sub-i : tie.Need-sub-i Inv-loop μ-loop
-sub-i c = search needs
-
-shared-slice-read-b : tie.Need-shared-slice-read-b Inv-loop μ-loop
-shared-slice-read-b c = search needs
-
-symbol-byte-requires : tie.Need-symbol-byte-requires Inv-loop μ-loop
-symbol-byte-requires c κs = search needs
-
 returns-3 : tie.Need-returns-3 Inv-loop μ-loop
 unfolding parses parsed
 returns-3 c =
@@ -74,9 +65,6 @@ cast-word c = omega (arith, c .before .before .shared-slice-known2 .given (c .be
 add-word : tie.Need-add-word Inv-loop μ-loop
 add-word c = omega (arith, small c, c .before .before .shared-slice-known2 .given (c .before .before .before .before .loop .i - 1))
 
-loop-less : tie.Need-loop-less Inv-loop μ-loop
-loop-less c = search needs
-
 loop-again : tie.Need-loop-again Inv-loop μ-loop
 loop-again c =
     let t = now (c .before .before .before .before .before .before .before .before .args .text) in
@@ -87,9 +75,6 @@ loop-again c =
       rw (l .inv .1) (sym (word-step 7 (l .i) t p (l .inv .0) (omega arith))),
       all-goes symbolByte (l .i) t p (l .inv .0) (sym (r .ensures) ∙ not-false (r .result) (c .if3 .left)) ∙ l .inv .2,
     )
-
-cast-t13 : tie.Need-cast-t13 Inv-loop μ-loop
-cast-t13 c = search needs
 
 returns-4 : tie.Need-returns-4 Inv-loop μ-loop
 unfolding parses parsed
@@ -104,20 +89,5 @@ returns-4 c =
 pub try-new-spec : {M : Type 1} → statement M
 try-new-spec =
     tie.close
-    (tie.spec
-    Inv-loop
-    μ-loop
-    returns
-    returns-2
-    loop-holds
-    sub-i
-    shared-slice-read-b
-    symbol-byte-requires
-    returns-3
-    mul-word
-    cast-word
-    add-word
-    loop-less
-    loop-again
-    cast-t13
-    returns-4)
+    (tie.spec Inv-loop μ-loop returns returns-2 loop-holds (λ c. search needs) (λ c. search needs) (λ c κs. search needs) returns-3 mul-word cast-word
+    add-word (λ c. search needs) loop-again (λ c. search needs) returns-4)

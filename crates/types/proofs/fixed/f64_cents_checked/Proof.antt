@@ -5,12 +5,9 @@ use Rattle.types.specs.Fixed.{toCents}
 use Rattle.types.proofs.fixed.f64_cents_checked.Statement.{statement}
 use Rattle.types.proofs.fixed.f64_cents_checked.Tie as tie
 
-f64-to-fixed-checked-requires : tie.Need-f64-to-fixed-checked-requires
-f64-to-fixed-checked-requires c κs = search needs
-
 returns : tie.Need-returns
 unfolding toCents ofBits ofInt
 returns c = c .f64-to-fixed-checked .ensures
 
 pub f64-cents-checked-spec : {M : Type 1} → statement M
-f64-cents-checked-spec = tie.close (tie.spec f64-to-fixed-checked-requires returns)
+f64-cents-checked-spec = tie.close (tie.spec (λ c κs. search needs) returns)

@@ -10,15 +10,6 @@ use Rattle.types.specs.declared.fixed.Fixed.{Fixed}
 use Rattle.types.proofs.fixed.f64_to_fixed_checked.Statement.{statement}
 use Rattle.types.proofs.fixed.f64_to_fixed_checked.Tie as tie
 
-is-finite-requires : tie.Need-is-finite-requires
-is-finite-requires c κs = search needs
-
-to-bits-requires : tie.Need-to-bits-requires
-to-bits-requires c κs = search needs
-
-rounded-requires : tie.Need-rounded-requires
-rounded-requires c κs = search needs
-
 -- the steps after the multiplication
 abbrev steps : Float → Fixed
 steps x = inRange (roundAway binary64 x)
@@ -40,4 +31,6 @@ returns-2 c =
     sym (ap (λ (b : Bool). ifFinite b (steps p)) (sym (f .is-finite .ensures) ∙ c .if1 .left))
 
 pub f64-to-fixed-checked-spec : {M : Type 1} → statement M
-f64-to-fixed-checked-spec = tie.close (tie.spec is-finite-requires to-bits-requires rounded-requires returns returns-2)
+f64-to-fixed-checked-spec =
+    tie.close
+    (tie.spec (λ c κs. search needs) (λ c κs. search needs) (λ c κs. search needs) returns returns-2)

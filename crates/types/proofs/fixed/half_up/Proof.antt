@@ -6,25 +6,10 @@ use Rattle.types.proofs.Away.{huge, whole-shift, none, some, half-sum}
 use Rattle.types.proofs.fixed.half_up.Statement.{statement}
 use Rattle.types.proofs.fixed.half_up.Tie as tie
 
-shl-result : tie.Need-shl-result
-shl-result c = search needs
-
-sub-s : tie.Need-sub-s
-sub-s c = search needs
-
-sub-result : tie.Need-sub-result
-sub-result c = search needs
-
-shl-result-2 : tie.Need-shl-result-2
-shl-result-2 c = search needs
-
 add-result : tie.Need-add-result
 add-result c =
     let a = c .before .before .before in
     record { fits = half-sum (a .args .digits) (1074 - a .args .power) (omega arith) (omega arith) (a .pre .0) }
-
-shr-result : tie.Need-shr-result
-shr-result c = search needs
 
 returns : tie.Need-returns
 returns c =
@@ -47,4 +32,7 @@ returns-4 c =
     some (a .args .digits) (a .args .power) (1074 - a .args .power) (omega arith) (c .if3 .left) (omega arith) (a .pre .0)
 
 pub half-up-spec : {M : Type 1} → statement M
-half-up-spec = tie.close (tie.spec shl-result sub-s sub-result shl-result-2 add-result shr-result returns returns-2 returns-3 returns-4)
+half-up-spec =
+    tie.close
+    (tie.spec (λ c. search needs) (λ c. search needs) (λ c. search needs) (λ c. search needs) add-result (λ c. search needs) returns returns-2
+    returns-3 returns-4)

@@ -11,12 +11,6 @@ use Rattle.types.proofs.Signs.{minus-one, neg-is}
 use Rattle.types.proofs.fixed.negative.Statement.{statement}
 use Rattle.types.proofs.fixed.negative.Tie as tie
 
-sub-result : tie.Need-sub-result
-sub-result c = search needs
-
-cast-result : tie.Need-cast-result
-cast-result c = search needs
-
 is : (c : tie.Else1) → negsuc 0 -ℤ toZ w64 (c .before .args .m - 1) ≡ negsuc (c .before .args .m - 1)
 is c = ap (λ (z : ℤ). negsuc 0 -ℤ z) (toZ-pos w64 (c .before .args .m - 1) (omega (arith, c .if1 .left))) ∙ minus-one (c .before .args .m - 1)
 
@@ -30,4 +24,6 @@ returns-2 : tie.Need-returns-2
 returns-2 c = toZ-ofZ w64 _ (sub-result-2 c) ∙ is c ∙ sym (neg-is (c .before .args .m) (c .if1 .left))
 
 pub negative-spec : {M : Type 1} → statement M
-negative-spec = tie.close (tie.spec sub-result cast-result sub-result-2 returns returns-2)
+negative-spec =
+    tie.close
+    (tie.spec (λ c. search needs) (λ c. search needs) sub-result-2 returns returns-2)

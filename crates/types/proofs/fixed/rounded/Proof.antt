@@ -20,18 +20,6 @@ use Rattle.types.proofs.fixed.rounded.Tie as tie
 returns : tie.Need-returns
 returns c = not-finite _ (not-finite-above (c .before .args .n) (c .if1 .taken))
 
-parts-of-requires : tie.Need-parts-of-requires
-parts-of-requires c κs = search needs
-
-half-up-requires : tie.Need-half-up-requires
-half-up-requires c κs = search needs
-
-negative-requires : tie.Need-negative-requires
-negative-requires c κs = search needs
-
-cast-t12 : tie.Need-cast-t12
-cast-t12 c = search needs
-
 -- the definition, at the parts of n
 spec-at : (c : tie.After-half-up) (s : Bool) → leb 0x8000_0000_0000_0000 (c .before .before .before .args .n) ≡ s
     → inRange (roundAway binary64 (ofBits binary64 (c .before .before .before .args .n))) ≡ ranged s (away (c .before .parts-of .result .digits * 2 ^ c .before .parts-of .result .power) (2 ^ 1074))
@@ -63,4 +51,6 @@ returns-5 c =
     no-pos _ (h .half-up .result) (h .half-up .ensures) (c .if4 .left) ∙ sym (spec-at h false (lt-leb _ _ (c .before .if2 .left)))
 
 pub rounded-spec : {M : Type 1} → statement M
-rounded-spec = tie.close (tie.spec returns parts-of-requires half-up-requires negative-requires cast-t12 returns-2 returns-3 returns-4 returns-5)
+rounded-spec =
+    tie.close
+    (tie.spec returns (λ c κs. search needs) (λ c κs. search needs) (λ c κs. search needs) (λ c. search needs) returns-2 returns-3 returns-4 returns-5)

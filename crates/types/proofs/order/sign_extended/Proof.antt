@@ -15,13 +15,10 @@ read c = toZ-ofZ w32 (c .args .ibkr) (c .fits .ibkr)
 cast-unsigned : tie.Need-cast-unsigned
 cast-unsigned c = subst (SFits w64) (sym (read c)) (record { sfits = omega (arith, c .fits .ibkr .sfits) })
 
-unsigned-requires : tie.Need-unsigned-requires
-unsigned-requires c κs = search needs
-
 returns : tie.Need-returns
 returns c =
     c .unsigned .ensures
     ∙ ap signExtended (toZ-ofZ w64 (toZ w32 (ofZ w32 (c .before .args .ibkr))) (cast-unsigned (c .before)) ∙ read (c .before))
 
 pub sign-extended-spec : {M : Type 1} → statement M
-sign-extended-spec = tie.close (tie.spec cast-unsigned unsigned-requires returns)
+sign-extended-spec = tie.close (tie.spec cast-unsigned (λ c κs. search needs) returns)

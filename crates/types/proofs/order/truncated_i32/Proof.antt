@@ -8,15 +8,6 @@ use mir.ValLaws.{toZ-ofZ}
 use Rattle.types.proofs.order.truncated_i32.Statement.{statement}
 use Rattle.types.proofs.order.truncated_i32.Tie as tie
 
-unsigned-requires : tie.Need-unsigned-requires
-unsigned-requires c κs = search needs
-
-cast-signed32 : tie.Need-cast-signed32
-cast-signed32 c = search needs
-
-signed32-requires : tie.Need-signed32-requires
-signed32-requires c κs = search needs
-
 returns : tie.Need-returns
 returns c =
     let n = c .before .before .args .n in
@@ -25,4 +16,6 @@ returns c =
     ∙ ap (λ (k : ℕ). toZ w32 (k % 2 ^ 32)) (c .before .unsigned .ensures ∙ ap (ofZ w64) (toZ-ofZ w64 n (c .before .before .fits .n)))
 
 pub truncated-i32-spec : {M : Type 1} → statement M
-truncated-i32-spec = tie.close (tie.spec unsigned-requires cast-signed32 signed32-requires returns)
+truncated-i32-spec =
+    tie.close
+    (tie.spec (λ c κs. search needs) (λ c. search needs) (λ c κs. search needs) returns)

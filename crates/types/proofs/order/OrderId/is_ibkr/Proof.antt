@@ -9,13 +9,10 @@ use Rattle.types.specs.Order.{signExtended}
 use Rattle.types.proofs.order.OrderId.is_ibkr.Statement.{statement}
 use Rattle.types.proofs.order.OrderId.is_ibkr.Tie as tie
 
-sign-extended-requires : tie.Need-sign-extended-requires
-sign-extended-requires c κs = search needs
-
 returns : tie.Need-returns
 returns c =
     let s = c .before .before in
     ap (λ (n : ℕ). eqb n (s .args .self .0)) (c .before .sign-extended .ensures ∙ ap signExtended (toZ-ofZ w32 (s .args .ibkr) (s .fits .ibkr)))
 
 pub is-ibkr-spec : {M : Type 1} → statement M
-is-ibkr-spec = tie.close (tie.spec sign-extended-requires returns)
+is-ibkr-spec = tie.close (tie.spec (λ c κs. search needs) returns)

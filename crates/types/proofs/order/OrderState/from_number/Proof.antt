@@ -32,4 +32,6 @@ returns-7 : tie.Need-returns-7
 returns-7 c = beyond (c .before .args .n) (omega arith)
 
 pub from-number-spec : {M : Type 1} → statement M
-from-number-spec = tie.close (tie.spec returns returns-2 returns-3 returns-4 returns-5 returns-6 returns-7)
+from-number-spec =
+    tie.close
+    (tie.spec returns returns-2 returns-3 returns-4 returns-5 returns-6 returns-7)

@@ -33,7 +33,7 @@ fn put_digits(d: &mut [u8], n: u64) -> usize
 }
 
 // Writes a number in decimal digits from `at` on, and returns how many they are.
-pub fn put_decimal(d: &mut [u8], at: usize, n: u64) -> usize
+fn put_decimal(d: &mut [u8], at: usize, n: u64) -> usize
     ensures { λ r. ⌜ (r ≡ length (decimal n)) × (now (d .exit) ≡ sets (now (d .entry)) at (decimal n)) ⌝ }
 {
     let mut digits = [0u8; 20];

@@ -5,7 +5,7 @@ use book::event::SequenceNumber;
 use marks::Marks;
 use marks::Pair;
 
-pub fn same_truth(a: bool, b: bool) -> bool
+fn same_truth(a: bool, b: bool) -> bool
     ensures { λ r. ⌜ r ≡ sameTruth a b ⌝ }
 {
     if a { b } else { !b }

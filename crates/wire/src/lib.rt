@@ -92,14 +92,14 @@ pub fn whole_u64_at(s: &[u8], at: usize) -> u64
 }
 
 // The first byte.
-pub fn u8_of(s: &[u8]) -> u8
+fn u8_of(s: &[u8]) -> u8
     ensures { λ r. ⌜ r ≡ le 1 (now (s .entry)) ⌝ }
 {
     if 0 < s.len() { s[0] } else { 0 }
 }
 
 // The number in the first two bytes. One test serves them all; only a slice that is too short is read by halves.
-pub fn u16_of(s: &[u8]) -> u16
+fn u16_of(s: &[u8]) -> u16
     ensures { λ r. ⌜ r ≡ le 2 (now (s .entry)) ⌝ }
 {
     if 2 <= s.len() {
@@ -208,13 +208,7 @@ pub fn unsigned32(x: i32) -> u32
     }
 }
 
-// A signed number in the first eight bytes, and at a place.
-pub fn i64_of(s: &[u8]) -> i64
-    ensures { λ r. ⌜ r ≡ toZ w64 (le 8 (now (s .entry))) ⌝ }
-{
-    signed(u64_of(s))
-}
-
+// A signed number in the eight bytes at a place.
 pub fn i64_at(s: &[u8], at: usize) -> i64
     ensures { λ r. ⌜ r ≡ toZ w64 (le 8 (drop at (now (s .entry)))) ⌝ }
 {

@@ -6,8 +6,6 @@
 // number of the marks and the count of queries, all answered; at 96 the label, at 160 the second input's first 48 bytes, at 208 a record, at 272 the text, at
 // 304 the first input's first bytes. The first input has so many of the record from that place on, and zeros elsewhere; the second has zeros after its
 // first bytes.
-ghost use mathlib.Core.Path.{_≡_};
-ghost use lib.ListN.{length};
 use intents::Reconciling;
 use join::Joining;
 use libc::STDOUT_FILENO;
@@ -34,31 +32,12 @@ fn addendum_refusal(r: Reconciling) -> u64 {
     }
 }
 
-fn tell_label(case: &[u8]) {
-    io::write_all(
-        STDOUT_FILENO,
-        wire::part(case, 96, wire::u64_at(case, 8) as usize),
-    );
-    io::write_all(STDOUT_FILENO, b": ");
-}
-
-// A byte more than a book may have.
-fn zeros() -> [u8; 1048577]
-    ensures { λ r. ⌜ 1048577 ≡ length r ⌝ }
-{
-    [0; 1048577]
-}
-
 // The join of two books.
 fn tell_join(case: &[u8], a: &[u8], b: &[u8]) {
-    let mut out = zeros();
+    let mut out = cases::zeros();
     let room = io::count(wire::u32_at(case, 72) as isize, &out);
     let k = wire::u64_at(case, 32);
-    io::print_decimal(
-        STDOUT_FILENO,
-        refusal(join::join(a, b, k, &mut out[..room])),
-    );
-    io::write_all(STDOUT_FILENO, b"\n");
+    cases::tell_number(refusal(join::join(a, b, k, &mut out[..room])));
 }
 
 // The desk's reply to a book and a sheet: its length and its first bytes.
@@ -75,9 +54,9 @@ fn tell_reply(book: &[u8], sheet: &[u8]) {
 
 // Reconciling of orders with a sheet, every query answered.
 fn reconciled(case: &[u8], orders: &[u8], sheet: &[u8], marks: &[u8]) -> Reconciling {
-    let answered = zeros();
+    let answered = cases::zeros();
     let queries = wire::part(&answered, 0, wire::u64_at(case, 88) as usize);
-    let mut addendum = zeros();
+    let mut addendum = cases::zeros();
     let room = io::count(wire::u32_at(case, 72) as isize, &addendum);
     intents_answer::lent_reconciling(marks, orders, sheet, queries, 0, &mut addendum[..room])
 }
@@ -87,11 +66,7 @@ fn tell_reconciled(case: &[u8], orders: &[u8], sheet: &[u8]) {
     let mut marks = [0u8; 176];
     marks[0] = 1;
     wire::copy(&mut marks, 8, wire::part(case, 80, 8));
-    io::print_decimal(
-        STDOUT_FILENO,
-        addendum_refusal(reconciled(case, orders, sheet, &marks)),
-    );
-    io::write_all(STDOUT_FILENO, b"\n");
+    cases::tell_number(addendum_refusal(reconciled(case, orders, sheet, &marks)));
 }
 
 fn tell_none() {
@@ -136,11 +111,11 @@ fn put_first(d: &mut [u8], case: &[u8]) {
 }
 
 fn tell_case(case: &[u8]) {
-    let mut a = zeros();
-    let mut b = zeros();
+    let mut a = cases::zeros();
+    let mut b = cases::zeros();
     put_first(&mut a, case);
     wire::copy(&mut b, 0, wire::part(case, 160, 48));
-    tell_label(case);
+    cases::tell_label(wire::part(case, 96, wire::u64_at(case, 8) as usize));
     tell(
         case,
         wire::part(&a, 0, wire::u64_at(case, 16) as usize),
@@ -158,22 +133,12 @@ fn read_case(fd: i32) -> bool {
     true
 }
 
-fn read_cases(fd: i32, most: u32) {
-    let mut left = most;
-    while 0 < left {
-        if !read_case(fd) {
-            return;
-        }
-        left -= 1;
-    }
-}
-
 fn main() {
-    let fd = os::open_read(b"cases.bin");
-    if fd < 0 {
-        os::fail(b"cases.bin");
-        return;
+    let fd = cases::open();
+    for _ in 0..1000u32 {
+        if !read_case(fd) {
+            break;
+        }
     }
-    read_cases(fd, 1000);
     libc::close(fd);
 }

@@ -23,7 +23,7 @@ use Rattle.symbol.specs.Symbol.{wideFieldOk}
 use Rattle.wire.proofs.Bools.{and-left, and-right, and-false, and-true}
 use Rattle.sheet.specs.Sheet.{orderCount, positionCount, ordersFailed, positionsFailed, ordersIn, positionsIn, brokerOrderOk, brokerOrderOf, brokerPositionOf, sheetOrders, sheetPositions, sheetMost, offsetsOk, markOk, headerOk, partsOk, sheetLayout}
 
--- the state and the four zeros behind it are one number of at most 5
+-- the state and the four zeros after it are one number of at most 5
 low-only : (a x : ℕ) → leb (a + 4294967296 * x) 5 ≡ (leb a 5 && eqb x 0)
 low-only a zero = rw (mul-zero 4294967296, add-zero a) (sym (and-true (leb a 5)))
 low-only a (suc x) =

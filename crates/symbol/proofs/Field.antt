@@ -78,7 +78,7 @@ pub field-long : (s : List ℕ) → symbolWidth < le 1 (drop symbolWidth s) → 
 unfolding fieldOk
 field-long s h = rw (lt-leb (le 1 (drop symbolWidth s)) symbolWidth h)
 
--- seven zeros behind the length's byte, where the eight bytes from there on make a number of one byte
+-- seven zeros after the length's byte, where the eight bytes from there on make a number of one byte
 pub wide-zero : (s : List ℕ) → Bytes s → ltb (le 8 (drop 8 s)) 256 ≡ eqb (le 7 (drop 9 s)) 0
 wide-zero s b =
     let l = le-lt 1 (drop 8 s) (bytes-drop 8 s b) in
@@ -89,7 +89,7 @@ wide-zero s b =
     low-only a (suc x) h = le-ltb (a + 256 * suc x) 256 (omega arith) ∙ sym (ne-eqb (suc x) 0 (λ e. omega arith))
 
 -- ---- a field that is written
--- two numbers, one behind the other
+-- two numbers, one after the other
 pub sets-two : (d : List ℕ) (at n m x y : ℕ) → sets (sets d at (bytesOf n x)) (at + n) (bytesOf m y) ≡ sets d at (bytesOf n x ++ bytesOf m y)
 sets-two d at n m x y = sym (sets-append d (bytesOf n x) (bytesOf m y) at ∙ rw (length-bytesOf n x))
 

@@ -16,7 +16,7 @@ use Rattle.symbol.specs.Symbol.{symbolWidth, symbolByte, allOf, parses, 
 use Rattle.wire.proofs.Bools.{and-left, and-right}
 use Rattle.symbol.proofs.Text.{padded-nil, padded-cons, text-bytes, parses-most, parses-bytes}
 
--- ---- the order of texts: zeros behind a text change nothing, since no byte of a symbol is 0
+-- ---- the order of texts: zeros after a text change nothing, since no byte of a symbol is 0
 zeros-last : (n : ℕ) → bytesBefore (padded n []) (padded n []) ≡ false
 unfolding bytesBefore
 zeros-last zero = rw (padded-none 0)

@@ -62,7 +62,7 @@ le-more n [] h = simp le-nil
 le-more zero (b ∷ s) h = absurd (not-suc-le-zero h)
 le-more (suc n) (b ∷ s) h = rw (le-more n s (le-of-suc-le-suc h))
 
--- ---- a text with zeros behind it up to a width
+-- ---- a text with zeros after it up to a width
 pub padded-nil : (n : ℕ) → padded (suc n) [] ≡ 0 ∷ padded n []
 unfolding padded
 padded-nil n = rw (sub-zero (suc n), sub-zero n)

@@ -48,7 +48,7 @@ symbolIs y t = eqb (y .word) (le symbolWidth t) && eqb (y .len) (length t)
 abbrev pub sameSymbol : Symbol → Symbol → Bool
 sameSymbol y z = eqb (y .word) (z .word) && eqb (y .len) (z .len)
 
--- by bytes, a prefix first: zeros stand behind a symbol's bytes, and no byte of a symbol is zero
+-- by bytes, a prefix first: zeros stand after a symbol's bytes, and no byte of a symbol is zero
 unfoldable pub bytesBefore : List ℕ → List ℕ → Bool
 bytesBefore s [] = false
 bytesBefore [] (b ∷ t) = true

@@ -1,4 +1,4 @@
--- `sheet::order_ok`: the state and the zeros behind it, read as one number.
+-- `sheet::order_ok`: the state and the zeros after it, read as one number.
 use borrow.Author.Needs.{needs}
 use denote.Ref.{now}
 use lib.ListN.{drop}

@@ -1,4 +1,4 @@
--- `symbol::put_wide_field`: the number's bytes, and the length's behind them.
+-- `symbol::put_wide_field`: the number's bytes, and the length's after them.
 use borrow.Author.Needs.{needs}
 use mathlib.Core.Path.{sym, _∙_}
 use denote.Ref.{now}

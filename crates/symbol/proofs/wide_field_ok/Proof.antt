@@ -1,4 +1,4 @@
--- `symbol::wide_field_ok`: the field of nine bytes, then the zeros behind it.
+-- `symbol::wide_field_ok`: the field of nine bytes, then the zeros after it.
 use borrow.Author.Needs.{needs}
 use mathlib.Core.Path.{sym, _∙_}
 use denote.Ref.{now}

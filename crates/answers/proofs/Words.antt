@@ -1,4 +1,4 @@
--- Numbers written one behind the other, and bytes that are all written. About no function. Assumes nothing.
+-- Numbers written one after the other, and bytes that are all written. About no function. Assumes nothing.
 use Prim.Native.Nat.{ℕ, _+_}
 use mathlib.Core.Path.{_≡_, sym, ap, _∙_}
 use mathlib.Core.List.{List, [], _++_, append-assoc, append-nil}

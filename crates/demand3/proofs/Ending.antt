@@ -32,7 +32,7 @@ use Rattle.demand3.proofs.JoinEvents.{text-kept}
 use Rattle.demand3.proofs.Settling.{settle, Reads, same-refl}
 use Rattle.demand3.proofs.Progress.{Prog, done, keep, shut}
 
--- ---- references read the same whatever stands behind the text
+-- ---- references read the same whatever stands after the text
 ref-same : (s t u : List ℕ) (r : TextRef) → RefIn (length s) r → textIn (s ++ t) r ≡ textIn (s ++ u) r
 ref-same s t u r h = text-kept s t r h ∙ sym (text-kept s u r h)
 

@@ -349,7 +349,7 @@ unfolding named namedAmong checkpoints eventName sameBytes
 name-back (C.Is id) = refl
 name-back C.Nothing = refl
 
--- ---- an entry whose text stands behind p in the book's
+-- ---- an entry whose text stands after p in the book's
 module _ (c : Chosen) (time : ℤ) (number : ℕ) (y : Symbol) (texted : Texted y) (p q text : List ℕ) (split : text ≡ p ++ (entryText c y ++ q))
     (fits : length text < 2 ^ 32) (id : IdFits c) (small : number < 2 ^ 64) (valid : timeLayout time ≡ L.Sound) (t : List ℕ) where
   module _ (inside : length p + length (entryName c) + y .len + length (reasonText c) ≤ length text) (late : ofZ w64 time ≤ latest) where

@@ -31,7 +31,7 @@ use Rattle.demand3.proofs.Stepping.{noted, noted-number, steps-marks, e
 pub record Led (c : Chosen) (x y : List ℕ) : Type 0 where
   pub bytes : Bytes y
   pub sound : bookLayout y ≡ L.Sound
-  -- the entries' symbols, the entries, and the text behind x's
+  -- the entries' symbols, the entries, and the text after x's
   pub symbols : List Symbol
   pub entries : List Event
   pub texts : List ℕ
@@ -72,7 +72,7 @@ pub led-count : {c : Chosen} {x y : List ℕ} (l : Led c x y) → eventCount y �
 led-count {x} {y} l =
     sym (events-count y) ∙ ap length (l .events) ∙ length-append (eventsOf x) (l .entries) ∙ omega (arith, events-count x, written-length (l .written))
 
--- ---- no entry, and entries behind entries
+-- ---- no entry, and entries after entries
 pub led-refl : {c : Chosen} (x : List ℕ) → Bytes x → bookLayout x ≡ L.Sound → Led c x x
 unfolding sum
 led-refl x b s =

@@ -63,7 +63,7 @@ pub settle-symbol : (c : Chosen) (a : AsStr) (o : Order) → settle c a o .symbo
 settle-symbol (C.Is id) a o = refl
 settle-symbol C.Nothing a o = refl
 
--- it does so where more stands behind the text
+-- it does so where more stands after the text
 pub reads-more : (c : Chosen) (s t : List ℕ) (a : AsStr) → Reads c s a → Reads c (s ++ t) a
 reads-more (C.Is id) s t a h = tt
 reads-more C.Nothing s t Str.Nothing h = h

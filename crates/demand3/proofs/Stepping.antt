@@ -1,4 +1,4 @@
--- Recovery of a log and of the entries behind it: orders, positions and marks, each apart from the time that recovery begins with. About no function.
+-- Recovery of a log and of the entries after it: orders, positions and marks, each apart from the time that recovery begins with. About no function.
 -- Assumes nothing.
 use Prim.Native.Nat.{ℕ, zero, suc, _+_}
 use mathlib.Core.Path.{_≡_, refl, sym, ap, _∙_}

@@ -82,7 +82,7 @@ driftOf positions targets prices equity room =
     (reportOf (linesOf (heldIn positions) (targetsIn targets) (pricesIn prices)) equity room)
     D.BadWeight)
 
--- ---- the output: the records and zeros behind them, and zeros alone on refusal
+-- ---- the output: the records and zeros after them, and zeros alone on refusal
 abbrev pub outputOf : Drift → List Line → ℤ → ℕ → List ℕ
 outputOf (D.Done n x) lines equity room = padded room (encoded (lineBytes equity) lines)
 outputOf D.Oversize lines equity room = replicate room 0

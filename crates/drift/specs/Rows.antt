@@ -1,4 +1,4 @@
--- Drift lists, from bytes to values. Each row is a symbol field of 16 bytes and eight bytes at 16: a position's quantity (its cost, behind
+-- Drift lists, from bytes to values. Each row is a symbol field of 16 bytes and eight bytes at 16: a position's quantity (its cost, after
 -- them, is not read), a target's f64, a price's i64.
 -- Assumes nothing.
 use Prim.Native.Nat.{ℕ, _/_}
@@ -38,7 +38,7 @@ targetsIn d = valued (ofBits binary64) (rowsIn 24 d)
 abbrev pub pricesIn : List ℕ → List (Symbol × ℤ)
 pricesIn d = valued (toZ w64) (rowsIn 24 d)
 
--- refusal 1: more than 1,024 whole rows; refusal 2: a rest behind them, or a bad symbol field
+-- refusal 1: more than 1,024 whole rows; refusal 2: a rest after them, or a bad symbol field
 unfoldable pub rowsLayout : ℕ → List ℕ → Layout
 unfolding tableOk
 rowsLayout w d = oversizeIf (ltb 1024 (length d / w)) (soundIf (tableOk wideFieldOk w d))

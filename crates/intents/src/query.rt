@@ -7,7 +7,7 @@ ghost use Rattle.intents.specs.Intents.{query, maxRetries, reconcileOrde
 ghost use Rattle.intents.specs.Turns.{queriedAt, Turned};
 use crate::Chosen;
 
-// Whether a query was answered, and the place behind the queries taken.
+// Whether a query was answered, and the place after the queries taken.
 pub struct Asked {
     pub answered: bool,
     pub next: usize,

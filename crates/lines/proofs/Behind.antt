@@ -1,4 +1,4 @@
--- A text written behind another. About no function.
+-- A text written after another. About no function.
 -- Assumes nothing.
 use Prim.Native.Nat.{ℕ, _+_}
 use mathlib.Core.Path.{_≡_, sym, _∙_}

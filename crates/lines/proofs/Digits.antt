@@ -12,7 +12,7 @@ use lib.ListN.{length, drop, set, length-append}
 use lib.Seq.{append-snoc}
 use Rattle.lines.specs.Lines.{digits}
 
--- the last digit behind the others, or alone
+-- the last digit after the others, or alone
 digits-more : (f n : ℕ) → 10 ≤ n → digits (suc f) n ≡ digits f (n / 10) ++ ((48 + n % 10) ∷ [])
 unfolding digits
 digits-more f n h = rw (le-ltb n 10 h)
@@ -52,7 +52,7 @@ drop-set-here [] i x h = absurd (not-suc-le-zero h)
 drop-set-here (y ∷ d) zero x h = refl
 drop-set-here (y ∷ d) (suc i) x h = drop-set-here d i x (le-of-suc-le-suc h)
 
--- one turn of the loop, and what comes behind it
+-- one turn of the loop, and what comes after it
 pub digits-turn : (d : List ℕ) (f n : ℕ) → 0 < f → f ≤ length d → 10 ≤ n
     → digits f n ++ drop f d ≡ digits (f - 1) (n / 10) ++ drop (f - 1) (set d (f - 1) (48 + n % 10))
 digits-turn d zero n p l h = absurd (not-suc-le-zero p)

@@ -37,7 +37,7 @@ checkpointName CancelIntent = ascii "CancelIntent"
 checkpointName CancelResult = ascii "CancelResult"
 checkpointName RunCompleted = ascii "RunCompleted"
 
--- ---- a text and a number behind it, and a line of both
+-- ---- a text and a number after it, and a line of both
 abbrev pub newline : List ℕ
 newline = 10 ∷ []
 

@@ -95,7 +95,7 @@ pub fn put_checkpoint_name(d: &mut [u8], at: usize, k: Checkpoint) -> usize
     len
 }
 
-// Writes a text and a number behind it from `at` on, and returns the length of both.
+// Writes a text and a number after it from `at` on, and returns the length of both.
 pub fn put_field(d: &mut [u8], at: usize, word: &[u8], n: u64) -> usize
     requires { ⌜ at + length (now word) < 65536 ⌝ }
     ensures { λ r. ⌜ (r ≡ length (field (now (word .entry)) n)) × (now (d .exit) ≡ sets (now (d .entry)) at (field (now (word .entry)) n)) × (r ≤ length (now (word .entry)) + 20) ⌝ }

@@ -1,4 +1,4 @@
--- Numbers of the record written one behind the other. About no function.
+-- Numbers of the record written one after the other. About no function.
 -- Assumes nothing.
 use Prim.Native.Nat.{ℕ, _+_, _-_}
 use mathlib.Core.Path.{_≡_, refl, sym, ap, _∙_}
@@ -19,7 +19,7 @@ use Rattle.marks.specs.declared.Marks.{Marks}
 use Rattle.marks.specs.declared.Pair.{Pair}
 use Rattle.marks_record.specs.MarksRecord.{truthNumber, numberBytes, headBytes, flagBytes, flagsBytes, pairBytes, pairsBytes, marksBytes}
 
--- a list behind another of known length
+-- a list after another of known length
 pub behind : (n : ℕ) (s t d : List ℕ) (at : ℕ) → length s ≡ n → sets (sets d at s) (at + n) t ≡ sets d at (s ++ t)
 behind n s t d at e = sym (sets-append d s t at ∙ ap (λ (k : ℕ). sets (sets d at s) (at + k) t) e)
 

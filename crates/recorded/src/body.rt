@@ -1,6 +1,6 @@
 // The sections of a case's body: a u64 length, that many bytes, zeros up to the next multiple of 8.
 
-// Where the section behind the one at `at` starts. A body has at most 65,536 bytes: what claims more is passed by in place.
+// Where the section after the one at `at` starts. A body has at most 65,536 bytes: what claims more is passed by in place.
 fn next(body: &[u8], at: usize) -> usize {
     let len = wire::u64_at(body, at);
     if 65536 < len {

@@ -8,7 +8,7 @@ fn acted(tally: &mut [u64], b: &[u8], s: &[u8]) {
     tally::two(tally, tally::ACTIONS, b, 12, n);
 }
 
-// Section 12, and those behind it.
+// Section 12, and those after it.
 pub fn replay(tally: &mut [u64], b: &[u8]) {
     let mut s = io::buffer();
     states::lend(b, 2, &mut s);

@@ -1,4 +1,4 @@
-// Kind 1, a log. Inputs: book 1, sheet 2, queries 3, window 4, numbers 5. The sections of answers up to 15; those behind it are in `addenda`.
+// Kind 1, a log. Inputs: book 1, sheet 2, queries 3, window 4, numbers 5. The sections of answers up to 15; those after it are in `addenda`.
 use crate::addenda;
 use crate::recover;
 use recorded::body;

@@ -67,7 +67,7 @@ fn at_end(fd: i32) -> bool {
     io::read_full(fd, &mut more) == 0
 }
 
-// Replays a whole list of format 1; false where it is none, breaks off, or has bytes behind its last case.
+// Replays a whole list of format 1; false where it is none, breaks off, or has bytes after its last case.
 fn read_list(fd: i32, tally: &mut [u64]) -> bool {
     let mut head = [0u8; 8];
     if io::read_full(fd, &mut head) != 8 {

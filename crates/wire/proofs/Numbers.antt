@@ -27,7 +27,7 @@ le-add zero m s = rw zero-add (omega arith)
 le-add (suc n) m [] = simp (le-nil, mul-zero)
 le-add (suc n) m (b ∷ s) = rw (suc-add, pow-succ', mul-assoc) (omega (arith, le-add n m s))
 
--- a number by its bytes: that at i, and above it the number behind it
+-- a number by its bytes: that at i, and above it the number after it
 pub le-at : (n i : ℕ) (s : List ℕ) → le (suc n) (drop i s) ≡ getD s i 0 + 256 * le n (drop (suc i) s)
 unfolding le
 le-at n zero [] = simp le-nil

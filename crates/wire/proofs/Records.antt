@@ -9,7 +9,7 @@ use lib.ListN.{length, take, drop, getD, set, replicate, length-append, length-d
 use lib.Seq.{sets, sets-eq, take-at, drop-at, drop-append-le, drop-append-add, drop-drop}
 use Rattle.wire.specs.Table.{records, encoded, padded}
 
--- ---- what is written behind a list, and over the front of one
+-- ---- what is written after a list, and over the front of one
 sets-suc : (x : ℕ) (l vs : List ℕ) (i : ℕ) → sets (x ∷ l) (suc i) vs ≡ x ∷ sets l i vs
 sets-suc x l [] i = refl
 sets-suc x l (v ∷ vs) i = sets-suc x (set l i v) vs (suc i)
@@ -24,7 +24,7 @@ sets-over p q r e =
     let room : 0 + length q ≤ length (p ++ r) = rw (length-append, e) (omega arith) in
     sets-eq q (p ++ r) 0 room ∙ rw (e, zero-add (length p), drop-at p r (length p) refl)
 
--- two runs of bytes, one behind the other
+-- two runs of bytes, one after the other
 pub sets-append : (l vs us : List ℕ) (i : ℕ) → sets l i (vs ++ us) ≡ sets (sets l i vs) (i + length vs) us
 sets-append l [] us i = rw add-zero
 sets-append l (v ∷ vs) us i =
@@ -35,7 +35,7 @@ drop-zeros zero n = rw sub-zero
 drop-zeros (suc k) zero = rw (zero-sub (suc k))
 drop-zeros (suc k) (suc n) = drop-zeros k n ∙ rw (suc-sub-suc n k)
 
--- ---- a buffer that holds bytes, and zeros behind them
+-- ---- a buffer that holds bytes, and zeros after them
 pub length-padded : (n : ℕ) (s : List ℕ) → length s ≤ n → length (padded n s) ≡ n
 unfolding padded
 length-padded n s h = rw (length-append, length-replicate) (omega arith)
@@ -45,7 +45,7 @@ pub padded-none : (n : ℕ) → padded n [] ≡ replicate n 0
 unfolding padded
 padded-none n = rw sub-zero
 
--- bytes written behind those that are there
+-- bytes written after those that are there
 pub padded-behind : (n : ℕ) (s t : List ℕ) → length s + length t ≤ n → sets (padded n s) (length s) t ≡ padded n (s ++ t)
 unfolding padded
 padded-behind n s t h =
@@ -66,7 +66,7 @@ module _ {A : Type 0} (f : A → List ℕ) (w : ℕ) (size : (x : A) → length 
   length-encoded [] = rw mul-zero
   length-encoded (x ∷ xs) = rw (length-append, size, length-encoded xs, mul-suc) (omega arith)
 
-  -- one record more behind those that are there
+  -- one record more after those that are there
   pub appended : (n : ℕ) (xs : List A) (x : A) → w * length xs + w ≤ n
       → sets (padded n (encoded f xs)) (w * length xs) (f x) ≡ padded n (encoded f (xs ++ (x ∷ [])))
   unfolding encoded

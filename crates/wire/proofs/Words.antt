@@ -1,4 +1,4 @@
--- Numbers made of smaller ones, and numbers written byte by byte and one behind the other.
+-- Numbers made of smaller ones, and numbers written byte by byte and one after the other.
 -- Assumes nothing.
 use Prim.Native.Nat.{ℕ, zero, suc, _+_, _*_, _^_, _%_, _/_, _≤_, _<_}
 use mathlib.Core.Path.{_≡_, refl, sym, ap, _∙_}
@@ -25,7 +25,7 @@ bytes-add (suc n) m x y h =
     let high : (x + 256 * (256 ^ n * y)) / 256 ≡ x / 256 + 256 ^ n * y = omega arith in
     rw (suc-add n m, pow-succ', mul-assoc, low, high, bytes-add n m (x / 256) y b)
 
--- numbers one behind the other
+-- numbers one after the other
 pub sets-number : (n x : ℕ) (t d : List ℕ) (at : ℕ) → sets d at (bytesOf n x ++ t) ≡ sets (sets d at (bytesOf n x)) (at + n) t
 sets-number n x t d at = sets-append d (bytesOf n x) t at ∙ ap (λ (k : ℕ). sets (sets d at (bytesOf n x)) (at + k) t) (length-bytesOf n x)
 

@@ -1,4 +1,4 @@
--- Tables: records of w bytes each, one behind the other, at the front of a list of bytes.
+-- Tables: records of w bytes each, one after the other, at the front of a list of bytes.
 -- Assumes nothing.
 use Prim.Native.Nat.{ℕ, zero, suc, _-_}
 use mathlib.Core.List.{List, [], _∷_, _++_}
@@ -15,11 +15,11 @@ unfoldable pub records : {A : Type 0} → (List ℕ → A) → ℕ → ℕ → L
 records f w zero s = []
 records f w (suc n) s = f s ∷ records f w n (drop w s)
 
--- the bytes of a list of values, one record behind the other
+-- the bytes of a list of values, one record after the other
 unfoldable pub encoded : {A : Type 0} → (A → List ℕ) → List A → List ℕ
 encoded f [] = []
 encoded f (x ∷ xs) = f x ++ encoded f xs
 
--- a lent buffer of n bytes that holds these bytes, and zeros behind them
+-- a lent buffer of n bytes that holds these bytes, and zeros after them
 unfoldable pub padded : ℕ → List ℕ → List ℕ
 padded n s = s ++ replicate (n - length s) 0

@@ -1,4 +1,4 @@
--- `lines::put_field`: the number behind the text.
+-- `lines::put_field`: the number after the text.
 use native.Mathlib.Omega.{arith}
 use borrow.Author.Needs.{needs}
 use denote.Ref.{now}

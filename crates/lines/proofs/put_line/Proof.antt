@@ -1,4 +1,4 @@
--- `lines::put_line`: the newline behind the field.
+-- `lines::put_line`: the newline after the field.
 use native.Mathlib.Omega.{arith}
 use borrow.Author.Needs.{needs}
 use denote.Ref.{now}

@@ -1,4 +1,4 @@
--- `marks_record::put_flag`: two truths, one behind the other.
+-- `marks_record::put_flag`: two truths, one after the other.
 use borrow.Author.Needs.{needs}
 use Rattle.marks_record.proofs.put_flag.Statement.{statement}
 use Rattle.marks_record.proofs.put_flag.Tie as tie

@@ -1,4 +1,4 @@
--- `marks_record::put_flags`: truths one behind the other, and zeros.
+-- `marks_record::put_flags`: truths one after the other, and zeros.
 use borrow.Author.Needs.{needs}
 use Rattle.marks_record.proofs.put_flags.Statement.{statement}
 use Rattle.marks_record.proofs.put_flags.Tie as tie

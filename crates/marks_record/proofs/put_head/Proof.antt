@@ -1,4 +1,4 @@
--- `marks_record::put_head`: four numbers, one behind the other.
+-- `marks_record::put_head`: four numbers, one after the other.
 use borrow.Author.Needs.{needs}
 use Rattle.marks_record.proofs.put_head.Statement.{statement}
 use Rattle.marks_record.proofs.put_head.Tie as tie

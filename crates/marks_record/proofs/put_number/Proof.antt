@@ -1,4 +1,4 @@
--- `marks_record::put_number`: two numbers, one behind the other.
+-- `marks_record::put_number`: two numbers, one after the other.
 use borrow.Author.Needs.{needs}
 use Rattle.marks_record.proofs.put_number.Statement.{statement}
 use Rattle.marks_record.proofs.put_number.Tie as tie

@@ -1,4 +1,4 @@
--- `marks_record::put_pair`: two last numbers, one behind the other.
+-- `marks_record::put_pair`: two last numbers, one after the other.
 use borrow.Author.Needs.{needs}
 use Rattle.marks_record.proofs.put_pair.Statement.{statement}
 use Rattle.marks_record.proofs.put_pair.Tie as tie

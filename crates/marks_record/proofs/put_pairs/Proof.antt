@@ -1,4 +1,4 @@
--- `marks_record::put_pairs`: four pairs, one behind the other.
+-- `marks_record::put_pairs`: four pairs, one after the other.
 use borrow.Author.Needs.{needs}
 use Rattle.marks_record.proofs.put_pairs.Statement.{statement}
 use Rattle.marks_record.proofs.put_pairs.Tie as tie

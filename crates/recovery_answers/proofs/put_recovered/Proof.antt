@@ -1,4 +1,4 @@
--- `recovery_answers::put_recovered` meets its contract: the marks and three numbers, one behind the other. Assumes nothing.
+-- `recovery_answers::put_recovered` meets its contract: the marks and three numbers, one after the other. Assumes nothing.
 use borrow.Author.Needs.{needs}
 use Rattle.recovery_answers.proofs.put_recovered.Statement.{statement}
 use Rattle.recovery_answers.proofs.put_recovered.Tie as tie

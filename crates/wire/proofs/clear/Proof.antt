@@ -1,4 +1,4 @@
--- `wire::clear`: zeros so far, and behind them what was there.
+-- `wire::clear`: zeros so far, and after them what was there.
 use mathlib.Core.Path.{_≡_, refl, sym, ap, _∙_}
 use Prim.Native.Nat.{_≤_, _-_}
 use mathlib.Core.List.{_++_}

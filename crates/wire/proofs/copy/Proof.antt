@@ -1,4 +1,4 @@
--- `wire::copy`: what is still to be copied, put behind what is, is the whole.
+-- `wire::copy`: what is still to be copied, put after what is, is the whole.
 use mathlib.Core.Path.{_≡_, refl, sym, _∙_}
 use denote.Ref.{now}
 use Prim.Native.Nat.{_≤_, _-_}

@@ -1,4 +1,4 @@
--- `wire::put`: what is still to be written, put behind what is, is what was asked for.
+-- `wire::put`: what is still to be written, put after what is, is what was asked for.
 use mathlib.Core.Path.{_≡_, refl, sym, _∙_}
 use lib.ListN.{length, length-set}
 use lib.Seq.{sets}

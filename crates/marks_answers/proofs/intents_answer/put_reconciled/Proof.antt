@@ -1,4 +1,4 @@
--- `marks_answers::intents_answer::put_reconciled` meets its contract: three numbers, one behind the other. Assumes nothing.
+-- `marks_answers::intents_answer::put_reconciled` meets its contract: three numbers, one after the other. Assumes nothing.
 use borrow.Author.Needs.{needs}
 use Rattle.marks_answers.proofs.intents_answer.put_reconciled.Statement.{statement}
 use Rattle.marks_answers.proofs.intents_answer.put_reconciled.Tie as tie

@@ -1,4 +1,4 @@
--- `words::put_four`: as the call ensures where all the bytes are there; else the four writes, one behind the other; nothing past the end.
+-- `words::put_four`: as the call ensures where all the bytes are there; else the four writes, one after the other; nothing past the end.
 use borrow.Author.Needs.{needs}
 use mathlib.Core.Path.{sym, _∙_}
 use mathlib.Core.List.{_++_}

@@ -1,4 +1,4 @@
--- `words::put_whole_four`: the four writes, one behind the other.
+-- `words::put_whole_four`: the four writes, one after the other.
 use borrow.Author.Needs.{needs}
 use mathlib.Core.Path.{_∙_}
 use denote.Ref.{now}

@@ -5,12 +5,6 @@ use Rattle.answers.proofs.clear_if_short.Tie as tie
 use mathlib.Core.Path.{_∙_}
 use Rattle.answers.proofs.Given.{short-bytes, roomy-bytes}
 
-clear-requires : tie.Need-clear-requires
-clear-requires c κs = search needs
-
-same-length : tie.Need-same-length
-same-length c = search needs
-
 returns : tie.Need-returns
 returns c =
     let clear = c .before .before in
@@ -22,4 +16,6 @@ returns-2 : tie.Need-returns-2
 returns-2 c = roomy-bytes (c .before .before .args .size) (c .before .before .args .room) (c .if1 .left) _ _
 
 pub clear-if-short-spec : {M : Type 1} → statement M
-clear-if-short-spec = tie.close (tie.spec clear-requires same-length returns returns-2)
+clear-if-short-spec =
+    tie.close
+    (tie.spec (λ c κs. search needs) (λ c. search needs) returns returns-2)

@@ -11,15 +11,6 @@ use Rattle.answers.specs.Answer.{answerBytes}
 use Rattle.answers.proofs.Given.{within-whole, within-same}
 use Rattle.answers.proofs.Words.{numbers-as-cleared}
 
-put-whole-u64-requires : tie.Need-put-whole-u64-requires
-put-whole-u64-requires c κs = search needs
-
-put-whole-u64-requires-2 : tie.Need-put-whole-u64-requires-2
-put-whole-u64-requires-2 c κs = search needs
-
-same-length : tie.Need-same-length
-same-length c = search needs
-
 returns : tie.Need-returns
 unfolding answerBytes
 returns c =
@@ -32,21 +23,6 @@ returns c =
     (second .put-whole-u642 .ensures
     ∙ ap (λ (d : List ℕ). sets d 8 (bytesOf 8 (n .b))) (first .put-whole-u64 .ensures)
     ∙ numbers-as-cleared (a .answer .now) (n .a) (n .b) (test .if1 .taken))
-
-clear-requires : tie.Need-clear-requires
-clear-requires c κs = search needs
-
-put-u64-requires : tie.Need-put-u64-requires
-put-u64-requires c κs = search needs
-
-put-u64-requires-2 : tie.Need-put-u64-requires-2
-put-u64-requires-2 c κs = search needs
-
-within-requires : tie.Need-within-requires
-within-requires c κs = search needs
-
-same-length-2 : tie.Need-same-length-2
-same-length-2 c = search needs
 
 returns-2 : tie.Need-returns-2
 unfolding answerBytes
@@ -64,14 +40,5 @@ returns-2 c =
 pub give-spec : {M : Type 1} → statement M
 give-spec =
     tie.close
-    (tie.spec
-    put-whole-u64-requires
-    put-whole-u64-requires-2
-    same-length
-    returns
-    clear-requires
-    put-u64-requires
-    put-u64-requires-2
-    within-requires
-    same-length-2
-    returns-2)
+    (tie.spec (λ c κs. search needs) (λ c κs. search needs) (λ c. search needs) returns (λ c κs. search needs) (λ c κs. search needs)
+    (λ c κs. search needs) (λ c κs. search needs) (λ c. search needs) returns-2)

@@ -6,15 +6,6 @@ use mathlib.Core.Path.{_∙_}
 use lib.ListN.{length}
 use Rattle.answers.proofs.Given.{short-number, short-bytes, roomy-number, roomy-bytes}
 
-clear-requires : tie.Need-clear-requires
-clear-requires c κs = search needs
-
-without-room-requires : tie.Need-without-room-requires
-without-room-requires c κs = search needs
-
-same-length : tie.Need-same-length
-same-length c = search needs
-
 returns : tie.Need-returns
 returns c =
     let clear = c .before .before .before in
@@ -32,4 +23,5 @@ returns-2 c =
 
 pub within-spec : {M : Type 1} → statement M
 within-spec =
-    tie.close (tie.spec clear-requires without-room-requires same-length returns returns-2)
+    tie.close
+    (tie.spec (λ c κs. search needs) (λ c κs. search needs) (λ c. search needs) returns returns-2)

@@ -9,21 +9,6 @@ use Rattle.desk_files.proofs.Whole.{whole}
 use Rattle.desk_files.proofs.answer.Statement.{statement}
 use Rattle.desk_files.proofs.answer.Tie as tie
 
-part-requires : tie.Need-part-requires
-part-requires c κs = search needs
-
-part-requires-2 : tie.Need-part-requires-2
-part-requires-2 c κs = search needs
-
-reply-requires : tie.Need-reply-requires
-reply-requires c κs = search needs
-
-enum-known-len : tie.Need-enum-known-len
-enum-known-len c = search needs
-
-enum-told : tie.Need-enum-told
-enum-told c = search needs
-
 returns : tie.Need-returns
 returns c =
     let r = c .before .before .before .reply in
@@ -41,11 +26,4 @@ returns-2 c =
 pub answer-spec : {M : Type 1} → statement M
 answer-spec =
     tie.close
-    (tie.spec
-    part-requires
-    part-requires-2
-    reply-requires
-    enum-known-len
-    enum-told
-    returns
-    returns-2)
+    (tie.spec (λ c κs. search needs) (λ c κs. search needs) (λ c κs. search needs) (λ c. search needs) (λ c. search needs) returns returns-2)

@@ -7,21 +7,6 @@ use mir.Syntax.{w64}
 use mir.Val.{ofZ}
 use mir.ValLaws.{toZ-ofZ}
 
-enum-known-h : tie.Need-enum-known-h
-enum-known-h c = search needs
-
-unsigned-requires : tie.Need-unsigned-requires
-unsigned-requires c κs = search needs
-
-enum-told : tie.Need-enum-told
-enum-told c = search needs
-
-enum-told-2 : tie.Need-enum-told-2
-enum-told-2 c = search needs
-
-enum-told-3 : tie.Need-enum-told-3
-enum-told-3 c = search needs
-
 returns : tie.Need-returns
 returns c =
     let arm = c .before .before in
@@ -42,13 +27,5 @@ returns-4 c = rw (c .enum-told3 .given .1)
 pub held-numbers-spec : {M : Type 1} → statement M
 held-numbers-spec =
     tie.close
-    (tie.spec
-    enum-known-h
-    unsigned-requires
-    enum-told
-    enum-told-2
-    enum-told-3
-    returns
-    returns-2
-    returns-3
+    (tie.spec (λ c. search needs) (λ c κs. search needs) (λ c. search needs) (λ c. search needs) (λ c. search needs) returns returns-2 returns-3
     returns-4)

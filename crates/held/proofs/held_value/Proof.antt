@@ -10,24 +10,6 @@ use Rattle.drift.specs.Rows.{rowsLayout}
 use Rattle.wire.proofs.Layouts.{both-sound}
 use Rattle.held.proofs.Refusals.{held-oversize, held-broken, held-sound}
 
-check-rows-requires : tie.Need-check-rows-requires
-check-rows-requires c κs = search needs
-
-check-rows-requires-2 : tie.Need-check-rows-requires-2
-check-rows-requires-2 c κs = search needs
-
-both-requires : tie.Need-both-requires
-both-requires c κs = search needs
-
-enum-told : tie.Need-enum-told
-enum-told c = search needs
-
-enum-told-2 : tie.Need-enum-told-2
-enum-told-2 c = search needs
-
-enum-told-3 : tie.Need-enum-told-3
-enum-told-3 c = search needs
-
 value-requires : tie.Need-value-requires
 value-requires c κs =
     let a = c .before .before .before .before .before .before .before .args in
@@ -63,14 +45,5 @@ returns-3 c =
 pub held-value-spec : {M : Type 1} → statement M
 held-value-spec =
     tie.close
-    (tie.spec
-    check-rows-requires
-    check-rows-requires-2
-    both-requires
-    enum-told
-    enum-told-2
-    enum-told-3
-    value-requires
-    returns
-    returns-2
-    returns-3)
+    (tie.spec (λ c κs. search needs) (λ c κs. search needs) (λ c κs. search needs) (λ c. search needs) (λ c. search needs) (λ c. search needs)
+    value-requires returns returns-2 returns-3)

@@ -13,15 +13,6 @@ use Rattle.drift.specs.declared.whole.Whole.the-variants as Z
 use Rattle.drift.proofs.Integers.{fits-of, is-whole, is-over}
 use Rattle.held.proofs.Totals.{low-is, low-fits, high-is, high-fits, under, over}
 
-add-top : tie.Need-add-top
-add-top c = search needs
-
-add-top-2 : tie.Need-add-top-2
-add-top-2 c = search needs
-
-mul-least : tie.Need-mul-least
-mul-least c = search needs
-
 returns : tie.Need-returns
 returns c =
     let a = c .before .args in
@@ -36,15 +27,6 @@ returns-2 c =
     let n = a .n * 2 ^ 63 in
     is-over (subℕ s n) (over s n (omega arith))
 
-mul-sum : tie.Need-mul-sum
-mul-sum c = search needs
-
-add-sum : tie.Need-add-sum
-add-sum c = search needs
-
-cast-t12 : tie.Need-cast-t12
-cast-t12 c = search needs
-
 add-t13 : tie.Need-add-t13
 add-t13 c =
     let a = c .before .before .before .args in
@@ -54,9 +36,6 @@ add-t13 c =
     let e : s + 2 ^ 63 ≡ t + n = omega arith in
     let p : toZ w64 t +ℤ negsuc 9223372036854775807 ≡ subℕ s n = ap (λ (z : ℤ). z +ℤ negsuc 9223372036854775807) (toZ-pos w64 t (c .if3 .taken)) ∙ low-is s n t e (c .if3 .taken) in
     subst (SFits w64) (sym p) (fits-of (subℕ s n) (low-fits s n t e (c .if3 .taken)))
-
-cast-t15 : tie.Need-cast-t15
-cast-t15 c = search needs
 
 returns-3 : tie.Need-returns-3
 returns-3 c =
@@ -82,16 +61,5 @@ returns-4 c =
 pub lower-spec : {M : Type 1} → statement M
 lower-spec =
     tie.close
-    (tie.spec
-    add-top
-    add-top-2
-    mul-least
-    returns
-    returns-2
-    mul-sum
-    add-sum
-    cast-t12
-    add-t13
-    cast-t15
-    returns-3
-    returns-4)
+    (tie.spec (λ c. search needs) (λ c. search needs) (λ c. search needs) returns returns-2 (λ c. search needs) (λ c. search needs)
+    (λ c. search needs) add-t13 (λ c. search needs) returns-3 returns-4)

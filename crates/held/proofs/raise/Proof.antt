@@ -9,12 +9,6 @@ use mir.Val.{ofZ}
 use mir.ValLaws.{toZ-ofZ}
 use Rattle.held.proofs.Totals.{raise-low, raise-high}
 
-unsigned-requires : tie.Need-unsigned-requires
-unsigned-requires c κs = search needs
-
-add-result : tie.Need-add-result
-add-result c = search needs
-
 returns : tie.Need-returns
 returns c =
     let s = c .before .before in
@@ -28,4 +22,4 @@ returns-2 c =
     ap (λ (n : ℕ). n - 2 ^ 63) e ∙ raise-high (s .args .x) (s .fits .x) (subst (λ (n : ℕ). 2 ^ 63 ≤ n) e (c .if1 .left))
 
 pub raise-spec : {M : Type 1} → statement M
-raise-spec = tie.close (tie.spec unsigned-requires add-result returns returns-2)
+raise-spec = tie.close (tie.spec (λ c κs. search needs) (λ c. search needs) returns returns-2)

@@ -38,33 +38,6 @@ loop-holds c =
     let e = left-all (lineAt [] (now (a .quantities)) [] (now (a .costs))) (a .n) in
     (omega arith, omega arith, omega arith, rw e, rw e (omega arith))
 
-mul-signed : tie.Need-mul-signed Inv-loop μ-loop
-mul-signed c = search needs
-
-shared-slice-read-signed : tie.Need-shared-slice-read-signed Inv-loop μ-loop
-shared-slice-read-signed c = search needs
-
-signed-requires : tie.Need-signed-requires Inv-loop μ-loop
-signed-requires c κs = search needs
-
-mul-signed-2 : tie.Need-mul-signed-2 Inv-loop μ-loop
-mul-signed-2 c = search needs
-
-shared-slice-read-signed-2 : tie.Need-shared-slice-read-signed-2 Inv-loop μ-loop
-shared-slice-read-signed-2 c = search needs
-
-signed-requires-2 : tie.Need-signed-requires-2 Inv-loop μ-loop
-signed-requires-2 c κs = search needs
-
-worth-of-requires : tie.Need-worth-of-requires Inv-loop μ-loop
-worth-of-requires c κs = search needs
-
-enum-known-added : tie.Need-enum-known-added Inv-loop μ-loop
-enum-known-added c = search needs
-
-enum-told : tie.Need-enum-told Inv-loop μ-loop
-enum-told c = search needs
-
 returns : tie.Need-returns Inv-loop μ-loop
 returns c =
     let a = c .before .before .before .before .before .before .before .before .before .before .before .args in
@@ -74,9 +47,6 @@ returns c =
     let p = toZ-ofZ w64 (c .before .before .before .signed2 .result) (record { sfits = c .before .before .before .signed2 .ok }) ∙ c .before .before .before .signed2 .ensures in
     let z : wholeOf (worth (f (l .k))) ≡ Z.Over = rw (q, p) at (sym (c .before .before .worth-of .ensures) ∙ c .enum-told .given .1) in
     value-product (map worth (linesAt [] (now (a .quantities)) [] (now (a .costs)) (a .n))) (l .inv .3 ∙ fits-stop f (a .n) (l .k) (c .before .before .before .before .before .before .before .loop-test .taken) (whole-over (worth (f (l .k))) z))
-
-raise-requires : tie.Need-raise-requires Inv-loop μ-loop
-raise-requires c κs = search needs
 
 high-fits : (high k n up : ℕ) → high ≤ k * 0x1_0000_0000 → k < n → n ≤ 2048 → up < 2 ^ 64 → high + up / 0x1_0000_0000 < 2 ^ 64
 high-fits high k n up h l m u = omega arith
@@ -95,12 +65,6 @@ add-low : tie.Need-add-low Inv-loop μ-loop
 add-low c =
     let l = c .before .before .before .before .before .before .before .before .before .before .loop in
     omega (arith, l .inv .0, l .inv .2, c .before .before .before .before .before .before .before .before .before .before .before .before .before .pre .0, c .before .before .before .before .before .before .before .before .before .loop-test .taken)
-
-add-k : tie.Need-add-k Inv-loop μ-loop
-add-k c = search needs
-
-loop-less : tie.Need-loop-less Inv-loop μ-loop
-loop-less c = search needs
 
 loop-again : tie.Need-loop-again Inv-loop μ-loop
 loop-again c =
@@ -133,12 +97,6 @@ lower-requires c κs =
     let m = c .before .before .before .before .pre .0 in
     (omega (arith, i0, i1, m), (omega (arith, i0, i2, m), m))
 
-enum-known-all : tie.Need-enum-known-all Inv-loop μ-loop
-enum-known-all c = search needs
-
-enum-told-2 : tie.Need-enum-told-2 Inv-loop μ-loop
-enum-told-2 c = search needs
-
 returns-2 : tie.Need-returns-2 Inv-loop μ-loop
 returns-2 c =
     let a = c .before .before .before .before .before .before .before .before .args in
@@ -170,28 +128,6 @@ returns-3 c =
 pub sum-worth-spec : {M : Type 1} → statement M
 sum-worth-spec =
     tie.close
-    (tie.spec
-    Inv-loop
-    μ-loop
-    loop-holds
-    mul-signed
-    shared-slice-read-signed
-    signed-requires
-    mul-signed-2
-    shared-slice-read-signed-2
-    signed-requires-2
-    worth-of-requires
-    enum-known-added
-    enum-told
-    returns
-    raise-requires
-    add-high
-    add-low
-    add-k
-    loop-less
-    loop-again
-    lower-requires
-    enum-known-all
-    enum-told-2
-    returns-2
-    returns-3)
+    (tie.spec Inv-loop μ-loop loop-holds (λ c. search needs) (λ c. search needs) (λ c κs. search needs) (λ c. search needs) (λ c. search needs)
+    (λ c κs. search needs) (λ c κs. search needs) (λ c. search needs) (λ c. search needs) returns (λ c κs. search needs) add-high add-low
+    (λ c. search needs) (λ c. search needs) loop-again lower-requires (λ c. search needs) (λ c. search needs) returns-2 returns-3)

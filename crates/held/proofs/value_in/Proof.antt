@@ -16,30 +16,12 @@ use Rattle.drift.specs.Code.{lineAt, Blank}
 use Rattle.held.proofs.Worths.{worth-same}
 use Rattle.held.proofs.Refusals.{empty-sound, none-targeted}
 
-from-requires : tie.Need-from-requires
-from-requires c κs = search needs
-
 lines-requires : tie.Need-lines-requires
 lines-requires c κs =
     let s = c .before .before .before .before .before .before .before .before .before .before .before in
     let a = s .args in
     let e = c .before .before .before .before .from .ensures ∙ drop-length (now (a .prices)) in
     (record { held = s .pre .0; wanted = ap (rowsLayout 24) e ∙ empty-sound; priced = s .pre .1 .0 }, subst (λ (t : List ℕ). Blank (now (a .positions)) t (now (a .words)) (now (a .quantities)) (now (a .weights)) (now (a .costs))) (sym e) (s .pre .1 .1))
-
-sum-worth-requires : tie.Need-sum-worth-requires
-sum-worth-requires c κs = search needs
-
-same-length : tie.Need-same-length
-same-length c = search needs
-
-same-length-2 : tie.Need-same-length-2
-same-length-2 c = search needs
-
-same-length-3 : tie.Need-same-length-3
-same-length-3 c = search needs
-
-same-length-4 : tie.Need-same-length-4
-same-length-4 c = search needs
 
 returns : tie.Need-returns
 returns c =
@@ -58,12 +40,5 @@ returns c =
 pub value-in-spec : {M : Type 1} → statement M
 value-in-spec =
     tie.close
-    (tie.spec
-    from-requires
-    lines-requires
-    sum-worth-requires
-    same-length
-    same-length-2
-    same-length-3
-    same-length-4
-    returns)
+    (tie.spec (λ c κs. search needs) lines-requires (λ c κs. search needs) (λ c. search needs) (λ c. search needs) (λ c. search needs)
+    (λ c. search needs) returns)

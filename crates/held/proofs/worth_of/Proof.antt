@@ -8,9 +8,6 @@ use mir.Syntax.{w64}
 use mir.ValLaws.{toZ-ofZ}
 use Rattle.drift.proofs.Answers.{sign-test}
 
-times-requires : tie.Need-times-requires
-times-requires c κs = search needs
-
 returns : tie.Need-returns
 returns c =
     let s = c .before .before in
@@ -20,4 +17,4 @@ returns-2 : tie.Need-returns-2
 returns-2 c = rw (sign-test (c .before .args .price) false (c .before .fits .price) (c .if1 .left))
 
 pub worth-of-spec : {M : Type 1} → statement M
-worth-of-spec = tie.close (tie.spec times-requires returns returns-2)
+worth-of-spec = tie.close (tie.spec (λ c κs. search needs) returns returns-2)

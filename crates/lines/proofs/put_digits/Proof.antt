@@ -20,21 +20,6 @@ abbrev μ-loop : tie.MeasureT-loop
 loop-holds : tie.Need-loop-holds Inv-loop μ-loop
 loop-holds c = (search needs, search needs, search needs, search needs, rw (drop-of-length-le (now (c .args .d)) {i = 20} (omega arith)) (append-nil _))
 
-sub-first : tie.Need-sub-first Inv-loop μ-loop
-sub-first c = search needs
-
-cast-d : tie.Need-cast-d Inv-loop μ-loop
-cast-d c = search needs
-
-add-d : tie.Need-add-d Inv-loop μ-loop
-add-d c = search needs
-
-slice-write-d : tie.Need-slice-write-d Inv-loop μ-loop
-slice-write-d c = search needs
-
-loop-less : tie.Need-loop-less Inv-loop μ-loop
-loop-less c = search needs
-
 loop-again : tie.Need-loop-again Inv-loop μ-loop
 loop-again c =
     let l = c .before .loop in
@@ -45,21 +30,6 @@ loop-again c =
       one-less (l .first) (l .rest) (l .inv .2) (l .inv .3),
       sym (digits-turn (l .d) (l .first) (l .rest) (l .inv .2) (omega arith) (c .loop-test .taken)) ∙ l .inv .4,
     )
-
-cast-d-2 : tie.Need-cast-d-2 Inv-loop μ-loop
-cast-d-2 c = search needs
-
-add-d-2 : tie.Need-add-d-2 Inv-loop μ-loop
-add-d-2 c = search needs
-
-sub-d : tie.Need-sub-d Inv-loop μ-loop
-sub-d c = search needs
-
-slice-write-d-2 : tie.Need-slice-write-d-2 Inv-loop μ-loop
-slice-write-d-2 c = search needs
-
-sub-result : tie.Need-sub-result Inv-loop μ-loop
-sub-result c = search needs
 
 same-length : tie.Need-same-length Inv-loop μ-loop
 same-length c = length-set (c .before .loop .d) _ _ ∙ c .before .loop .inv .0 ∙ sym (c .before .before .pre)
@@ -72,20 +42,5 @@ returns c =
 pub put-digits-spec : {M : Type 1} → statement M
 put-digits-spec =
     tie.close
-    (tie.spec
-    Inv-loop
-    μ-loop
-    loop-holds
-    sub-first
-    cast-d
-    add-d
-    slice-write-d
-    loop-less
-    loop-again
-    cast-d-2
-    add-d-2
-    sub-d
-    slice-write-d-2
-    sub-result
-    same-length
-    returns)
+    (tie.spec Inv-loop μ-loop loop-holds (λ c. search needs) (λ c. search needs) (λ c. search needs) (λ c. search needs) (λ c. search needs)
+    loop-again (λ c. search needs) (λ c. search needs) (λ c. search needs) (λ c. search needs) (λ c. search needs) same-length returns)

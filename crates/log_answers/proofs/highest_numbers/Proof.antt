@@ -3,15 +3,6 @@ use borrow.Author.Needs.{needs}
 use Rattle.log_answers.proofs.highest_numbers.Statement.{statement}
 use Rattle.log_answers.proofs.highest_numbers.Tie as tie
 
-enum-known-h : tie.Need-enum-known-h
-enum-known-h c = search needs
-
-enum-told : tie.Need-enum-told
-enum-told c = search needs
-
-enum-told-2 : tie.Need-enum-told-2
-enum-told-2 c = search needs
-
 returns : tie.Need-returns
 returns c = rw (c .before .h .given .1)
 
@@ -23,4 +14,5 @@ returns-3 c = rw (c .enum-told2 .given .1)
 
 pub highest-numbers-spec : {M : Type 1} → statement M
 highest-numbers-spec =
-    tie.close (tie.spec enum-known-h enum-told enum-told-2 returns returns-2 returns-3)
+    tie.close
+    (tie.spec (λ c. search needs) (λ c. search needs) (λ c. search needs) returns returns-2 returns-3)

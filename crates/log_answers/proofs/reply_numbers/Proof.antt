@@ -3,12 +3,6 @@ use borrow.Author.Needs.{needs}
 use Rattle.log_answers.proofs.reply_numbers.Statement.{statement}
 use Rattle.log_answers.proofs.reply_numbers.Tie as tie
 
-enum-known-r : tie.Need-enum-known-r
-enum-known-r c = search needs
-
-enum-told : tie.Need-enum-told
-enum-told c = search needs
-
 returns : tie.Need-returns
 returns c = rw (c .before .r .given .1)
 
@@ -16,4 +10,4 @@ returns-2 : tie.Need-returns-2
 returns-2 c = rw (c .enum-told .given .1)
 
 pub reply-numbers-spec : {M : Type 1} → statement M
-reply-numbers-spec = tie.close (tie.spec enum-known-r enum-told returns returns-2)
+reply-numbers-spec = tie.close (tie.spec (λ c. search needs) (λ c. search needs) returns returns-2)

@@ -4,18 +4,6 @@ use Rattle.marks_answers.proofs.marks_ok.Statement.{statement}
 use Rattle.marks_answers.proofs.marks_ok.Tie as tie
 use Rattle.marks_answers.proofs.Lent.{told-sound}
 
-check-requires : tie.Need-check-requires
-check-requires c κs = search needs
-
-enum-told : tie.Need-enum-told
-enum-told c = search needs
-
-enum-told-2 : tie.Need-enum-told-2
-enum-told-2 c = search needs
-
-enum-told-3 : tie.Need-enum-told-3
-enum-told-3 c = search needs
-
 returns : tie.Need-returns
 returns c = told-sound _ (c .before .before .check .ensures) (c .enum-told .given .1)
 
@@ -28,4 +16,4 @@ returns-3 c = told-sound _ (c .before .before .check .ensures) (c .enum-told3 .g
 pub marks-ok-spec : {M : Type 1} → statement M
 marks-ok-spec =
     tie.close
-    (tie.spec check-requires enum-told enum-told-2 enum-told-3 returns returns-2 returns-3)
+    (tie.spec (λ c κs. search needs) (λ c. search needs) (λ c. search needs) (λ c. search needs) returns returns-2 returns-3)

@@ -12,29 +12,8 @@ returns : tie.Need-returns
 unfolding marksOk
 returns c = rw (ne-eqb _ _ (c .if1 .taken))
 
-u64-of-requires : tie.Need-u64-of-requires
-u64-of-requires c κs = search needs
-
-from-requires : tie.Need-from-requires
-from-requires c κs = search needs
-
-truths-ok-requires : tie.Need-truths-ok-requires
-truths-ok-requires c κs = search needs
-
-u32-at-requires : tie.Need-u32-at-requires
-u32-at-requires c κs = search needs
-
-u16-at-requires : tie.Need-u16-at-requires
-u16-at-requires c κs = search needs
-
-from-requires-2 : tie.Need-from-requires-2
-from-requires-2 c κs = search needs
-
 numbers-ok-requires : tie.Need-numbers-ok-requires
 numbers-ok-requires c κs = rw (c .from2 .ensures, length-drop) (omega arith)
-
-sound-if-requires : tie.Need-sound-if-requires
-sound-if-requires c κs = search needs
 
 returns-2 : tie.Need-returns-2
 unfolding marksOk
@@ -55,14 +34,5 @@ returns-2 c =
 pub check-spec : {M : Type 1} → statement M
 check-spec =
     tie.close
-    (tie.spec
-    returns
-    u64-of-requires
-    from-requires
-    truths-ok-requires
-    u32-at-requires
-    u16-at-requires
-    from-requires-2
-    numbers-ok-requires
-    sound-if-requires
-    returns-2)
+    (tie.spec returns (λ c κs. search needs) (λ c κs. search needs) (λ c κs. search needs) (λ c κs. search needs) (λ c κs. search needs)
+    (λ c κs. search needs) numbers-ok-requires (λ c κs. search needs) returns-2)

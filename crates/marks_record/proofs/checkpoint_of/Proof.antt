@@ -19,12 +19,9 @@ returns-2 : tie.Need-returns-2
 unfolding checkpoints
 returns-2 c = sym (List·getD-eq-default checkpoints RunStarted {n = c .before .before .args .n - 1} (omega arith))
 
-array-copy-out-result : tie.Need-array-copy-out-result
-array-copy-out-result c = search needs
-
 returns-3 : tie.Need-returns-3
 unfolding checkpoints
 returns-3 c = refl
 
 pub checkpoint-of-spec : {M : Type 1} → statement M
-checkpoint-of-spec = tie.close (tie.spec returns returns-2 array-copy-out-result returns-3)
+checkpoint-of-spec = tie.close (tie.spec returns returns-2 (λ c. search needs) returns-3)

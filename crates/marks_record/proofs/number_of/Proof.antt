@@ -6,12 +6,6 @@ use mathlib.Core.Path.{_≡_, refl, sym, ap, _∙_}
 use borrow.Author.Tests.{eq-eqb, ne-eqb}
 use Rattle.book.specs.declared.event.SequenceNumber.the-variants.{Is}
 
-u64-of-requires : tie.Need-u64-of-requires
-u64-of-requires c κs = search needs
-
-u64-at-requires : tie.Need-u64-at-requires
-u64-at-requires c κs = search needs
-
 returns : tie.Need-returns
 returns c =
     rw (← c .before .before .u64-of .ensures, eq-eqb _ _ (c .before .if1 .taken)) (ap Is (c .u64-at .ensures))
@@ -21,4 +15,4 @@ returns-2 c =
     rw (← c .before .u64-of .ensures, ne-eqb _ _ (c .if1 .left))
 
 pub number-of-spec : {M : Type 1} → statement M
-number-of-spec = tie.close (tie.spec u64-of-requires u64-at-requires returns returns-2)
+number-of-spec = tie.close (tie.spec (λ c κs. search needs) (λ c κs. search needs) returns returns-2)

@@ -4,15 +4,9 @@ use Rattle.marks_record.specs.MarksRecord.{numberOk}
 use Rattle.marks_record.proofs.number_ok.Statement.{statement}
 use Rattle.marks_record.proofs.number_ok.Tie as tie
 
-whole-u64-requires : tie.Need-whole-u64-requires
-whole-u64-requires c κs = search needs
-
-whole-u64-at-requires : tie.Need-whole-u64-at-requires
-whole-u64-at-requires c κs = search needs
-
 returns : tie.Need-returns
 unfolding numberOk
 returns c = cc
 
 pub number-ok-spec : {M : Type 1} → statement M
-number-ok-spec = tie.close (tie.spec whole-u64-requires whole-u64-at-requires returns)
+number-ok-spec = tie.close (tie.spec (λ c κs. search needs) (λ c κs. search needs) returns)

@@ -6,36 +6,6 @@ use mathlib.Core.Path.{_≡_, refl, sym, ap, _∙_}
 use denote.Ref.{now}
 use Rattle.marks_record.proofs.Puts.{flags-written}
 
-truth-number-requires : tie.Need-truth-number-requires
-truth-number-requires c κs = search needs
-
-put-u8-requires : tie.Need-put-u8-requires
-put-u8-requires c κs = search needs
-
-truth-number-requires-2 : tie.Need-truth-number-requires-2
-truth-number-requires-2 c κs = search needs
-
-put-u8-requires-2 : tie.Need-put-u8-requires-2
-put-u8-requires-2 c κs = search needs
-
-put-flag-requires : tie.Need-put-flag-requires
-put-flag-requires c κs = search needs
-
-put-flag-requires-2 : tie.Need-put-flag-requires-2
-put-flag-requires-2 c κs = search needs
-
-put-flag-requires-3 : tie.Need-put-flag-requires-3
-put-flag-requires-3 c κs = search needs
-
-put-flag-requires-4 : tie.Need-put-flag-requires-4
-put-flag-requires-4 c κs = search needs
-
-put-requires : tie.Need-put-requires
-put-requires c κs = search needs
-
-same-length : tie.Need-same-length
-same-length c = search needs
-
 returns : tie.Need-returns
 returns c =
     let a = c .before .before .before .before .before .before .before .before .before .before .before .before .before .before .before .before .before .before .before .before .before .before .before .before .before .before .before .before .before .before .before .before .before .before .before .args in
@@ -46,15 +16,5 @@ returns c =
 pub put-flags-spec : {M : Type 1} → statement M
 put-flags-spec =
     tie.close
-    (tie.spec
-    truth-number-requires
-    put-u8-requires
-    truth-number-requires-2
-    put-u8-requires-2
-    put-flag-requires
-    put-flag-requires-2
-    put-flag-requires-3
-    put-flag-requires-4
-    put-requires
-    same-length
-    returns)
+    (tie.spec (λ c κs. search needs) (λ c κs. search needs) (λ c κs. search needs) (λ c κs. search needs) (λ c κs. search needs)
+    (λ c κs. search needs) (λ c κs. search needs) (λ c κs. search needs) (λ c κs. search needs) (λ c. search needs) returns)

@@ -8,19 +8,10 @@ use lib.ListN.{replicate}
 use Rattle.recovery_answers.specs.RecoveryAnswer.{recoveryBytes}
 use Rattle.answers.proofs.Given.{within-same}
 
-clear-requires : tie.Need-clear-requires
-clear-requires c κs = search needs
-
 put-recovery-requires : tie.Need-put-recovery-requires
 put-recovery-requires c κs =
     let clear = c .before .before .before in
     clear .clear .ensures ∙ ap (λ (n : ℕ). replicate n 0) (sym (clear .clear .kept .0))
-
-within-requires : tie.Need-within-requires
-within-requires c κs = search needs
-
-same-length : tie.Need-same-length
-same-length c = search needs
 
 returns : tie.Need-returns
 returns c =
@@ -33,4 +24,5 @@ returns c =
 
 pub give-recovery-spec : {M : Type 1} → statement M
 give-recovery-spec =
-    tie.close (tie.spec clear-requires put-recovery-requires within-requires same-length returns)
+    tie.close
+    (tie.spec (λ c κs. search needs) put-recovery-requires (λ c κs. search needs) (λ c. search needs) returns)

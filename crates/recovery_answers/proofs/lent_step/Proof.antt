@@ -8,18 +8,6 @@ use borrow.Author.Tests.{not-true, not-false}
 use Rattle.reader.specs.Reader.{marksAfter}
 use Rattle.recovery_answers.proofs.Lent.{marks-length}
 
-marks-ok-requires : tie.Need-marks-ok-requires
-marks-ok-requires c κs = search needs
-
-check-requires : tie.Need-check-requires
-check-requires c κs = search needs
-
-broken-marks-requires : tie.Need-broken-marks-requires
-broken-marks-requires c κs = search needs
-
-same-length : tie.Need-same-length
-same-length c = search needs
-
 returns : tie.Need-returns
 returns c =
     let test = c .before .before in
@@ -27,23 +15,11 @@ returns c =
     let e = sym (ok .marks-ok .ensures) ∙ not-true (ok .marks-ok .result) (test .if1 .taken) in
     (c .broken-marks .ensures ∙ rw (c .before .check .ensures, e), rw e)
 
-marks-of-requires : tie.Need-marks-of-requires
-marks-of-requires c κs = search needs
-
-step-on-requires : tie.Need-step-on-requires
-step-on-requires c κs = search needs
-
 put-stepped-requires : tie.Need-put-stepped-requires
 put-stepped-requires c κs =
     let test = c .before .before .before .before .before in
     let ok = test .before in
     marks-length _ (sym (ok .marks-ok .ensures) ∙ not-false (ok .marks-ok .result) (test .if1 .left))
-
-step-numbers-requires : tie.Need-step-numbers-requires
-step-numbers-requires c κs = search needs
-
-same-length-2 : tie.Need-same-length-2
-same-length-2 c = search needs
 
 returns-2 : tie.Need-returns-2
 returns-2 c =
@@ -61,15 +37,5 @@ returns-2 c =
 pub lent-step-spec : {M : Type 1} → statement M
 lent-step-spec =
     tie.close
-    (tie.spec
-    marks-ok-requires
-    check-requires
-    broken-marks-requires
-    same-length
-    returns
-    marks-of-requires
-    step-on-requires
-    put-stepped-requires
-    step-numbers-requires
-    same-length-2
-    returns-2)
+    (tie.spec (λ c κs. search needs) (λ c κs. search needs) (λ c κs. search needs) (λ c. search needs) returns (λ c κs. search needs)
+    (λ c κs. search needs) put-stepped-requires (λ c κs. search needs) (λ c. search needs) returns-2)

@@ -6,30 +6,6 @@ use mathlib.Core.Path.{_∙_}
 use denote.Ref.{now}
 use Rattle.recovery_answers.proofs.Lent.{recovered-written}
 
-put-marks-requires : tie.Need-put-marks-requires
-put-marks-requires c κs = search needs
-
-cast-put-u64 : tie.Need-cast-put-u64
-cast-put-u64 c = search needs
-
-put-u64-requires : tie.Need-put-u64-requires
-put-u64-requires c κs = search needs
-
-cast-put-u64-2 : tie.Need-cast-put-u64-2
-cast-put-u64-2 c = search needs
-
-put-u64-requires-2 : tie.Need-put-u64-requires-2
-put-u64-requires-2 c κs = search needs
-
-action-code-requires : tie.Need-action-code-requires
-action-code-requires c κs = search needs
-
-put-u64-requires-3 : tie.Need-put-u64-requires-3
-put-u64-requires-3 c κs = search needs
-
-same-length : tie.Need-same-length
-same-length c = search needs
-
 returns : tie.Need-returns
 returns c =
     let put = c .before .before in
@@ -45,13 +21,5 @@ returns c =
 pub put-recovered-spec : {M : Type 1} → statement M
 put-recovered-spec =
     tie.close
-    (tie.spec
-    put-marks-requires
-    cast-put-u64
-    put-u64-requires
-    cast-put-u64-2
-    put-u64-requires-2
-    action-code-requires
-    put-u64-requires-3
-    same-length
-    returns)
+    (tie.spec (λ c κs. search needs) (λ c. search needs) (λ c κs. search needs) (λ c. search needs) (λ c κs. search needs) (λ c κs. search needs)
+    (λ c κs. search needs) (λ c. search needs) returns)

@@ -8,24 +8,6 @@ use Prim.Native.Nat.{ℕ}
 use lib.Seq.{sets}
 use Rattle.recovery_answers.specs.RecoveryAnswer.{recoveredBytes}
 
-enum-known-r : tie.Need-enum-known-r
-enum-known-r c = search needs
-
-put-recovered-requires : tie.Need-put-recovered-requires
-put-recovered-requires c κs = search needs
-
-enum-told : tie.Need-enum-told
-enum-told c = search needs
-
-enum-told-2 : tie.Need-enum-told-2
-enum-told-2 c = search needs
-
-enum-told-3 : tie.Need-enum-told-3
-enum-told-3 c = search needs
-
-same-length : tie.Need-same-length
-same-length c = search needs
-
 returns : tie.Need-returns
 returns c =
     let put = c .before .before in
@@ -45,14 +27,5 @@ returns-4 c = rw (c .enum-told3 .given .1) (refl, c .before .before .before .pre
 pub put-recovery-spec : {M : Type 1} → statement M
 put-recovery-spec =
     tie.close
-    (tie.spec
-    enum-known-r
-    put-recovered-requires
-    enum-told
-    enum-told-2
-    enum-told-3
-    same-length
-    returns
-    returns-2
-    returns-3
-    returns-4)
+    (tie.spec (λ c. search needs) (λ c κs. search needs) (λ c. search needs) (λ c. search needs) (λ c. search needs) (λ c. search needs) returns
+    returns-2 returns-3 returns-4)

@@ -11,24 +11,6 @@ use Rattle.recovery_answers.proofs.Lent.{kept-short, altered, record-wr
 returns : tie.Need-returns
 returns c = kept-short (c .before .before .args .room) _ _ (c .if1 .taken)
 
-enum-told : tie.Need-enum-told
-enum-told c = search needs
-
-put-marks-requires : tie.Need-put-marks-requires
-put-marks-requires c κs = search needs
-
-enum-told-2 : tie.Need-enum-told-2
-enum-told-2 c = search needs
-
-enum-told-3 : tie.Need-enum-told-3
-enum-told-3 c = search needs
-
-enum-told-4 : tie.Need-enum-told-4
-enum-told-4 c = search needs
-
-same-length : tie.Need-same-length
-same-length c = search needs
-
 returns-2 : tie.Need-returns-2
 returns-2 c =
     let put = c .before .before in
@@ -56,15 +38,5 @@ returns-5 c =
 pub put-stepped-spec : {M : Type 1} → statement M
 put-stepped-spec =
     tie.close
-    (tie.spec
-    returns
-    enum-told
-    put-marks-requires
-    enum-told-2
-    enum-told-3
-    enum-told-4
-    same-length
-    returns-2
-    returns-3
-    returns-4
-    returns-5)
+    (tie.spec returns (λ c. search needs) (λ c κs. search needs) (λ c. search needs) (λ c. search needs) (λ c. search needs) (λ c. search needs)
+    returns-2 returns-3 returns-4 returns-5)

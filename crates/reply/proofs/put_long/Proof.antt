@@ -6,45 +6,15 @@ use borrow.Author.Needs.{needs}
 use Rattle.reply.proofs.put_long.Statement.{statement}
 use Rattle.reply.proofs.put_long.Tie as tie
 
-slice-aggregate-book-result : tie.Need-slice-aggregate-book-result
-slice-aggregate-book-result c = search needs
-
-slice-aggregate-book-result-2 : tie.Need-slice-aggregate-book-result-2
-slice-aggregate-book-result-2 c = search needs
-
-slice-aggregate-book-result-3 : tie.Need-slice-aggregate-book-result-3
-slice-aggregate-book-result-3 c = search needs
-
-book-result-requires : tie.Need-book-result-requires
-book-result-requires c κs = search needs
-
-enum-known-x : tie.Need-enum-known-x
-enum-known-x c = search needs
-
-put-refused-requires : tie.Need-put-refused-requires
-put-refused-requires c κs = search needs
-
-enum-known-x-2 : tie.Need-enum-known-x-2
-enum-known-x-2 c = search needs
-
-slice-aggregate-put-told : tie.Need-slice-aggregate-put-told
-slice-aggregate-put-told c = search needs
-
 put-told-requires : tie.Need-put-told-requires
 put-told-requires c κs =
     let a = c .before .before .before .before .before .before .before .before .before .before .before .before .before .before .before .args in
     count-few (now (a .book)) (now (a .sheet)) 65536 (lit≤ tt) _ _ _ _ (rw (c .before .before .before .x2 .given .1) at (c .before .before .before .before .before .before .before .before .book-result .ensures))
 
-same-length : tie.Need-same-length
-same-length c = search needs
-
 returns : tie.Need-returns
 returns c =
     let a = c .before .before .before .before .before .before .before .before .before .before .before .before .before .before .before .before .before .args in
     rw (refused-by (now (a .book)) (now (a .sheet)) 65536 _ (rw (c .before .before .before .before .before .x .given .1) at (c .before .before .before .before .before .before .before .before .before .before .book-result .ensures))) (c .before .before .put-refused .ensures)
-
-same-length-2 : tie.Need-same-length-2
-same-length-2 c = search needs
 
 returns-2 : tie.Need-returns-2
 returns-2 c =
@@ -54,17 +24,5 @@ returns-2 c =
 pub put-long-spec : {M : Type 1} → statement M
 put-long-spec =
     tie.close
-    (tie.spec
-    slice-aggregate-book-result
-    slice-aggregate-book-result-2
-    slice-aggregate-book-result-3
-    book-result-requires
-    enum-known-x
-    put-refused-requires
-    enum-known-x-2
-    slice-aggregate-put-told
-    put-told-requires
-    same-length
-    returns
-    same-length-2
-    returns-2)
+    (tie.spec (λ c. search needs) (λ c. search needs) (λ c. search needs) (λ c κs. search needs) (λ c. search needs) (λ c κs. search needs)
+    (λ c. search needs) (λ c. search needs) put-told-requires (λ c. search needs) returns (λ c. search needs) returns-2)

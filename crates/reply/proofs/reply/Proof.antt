@@ -11,18 +11,6 @@ use Rattle.reply.proofs.Room.{fits, lacks}
 use Rattle.reply.proofs.reply.Statement.{statement}
 use Rattle.reply.proofs.reply.Tie as tie
 
-clear-requires : tie.Need-clear-requires
-clear-requires c κs = search needs
-
-put-reply-requires : tie.Need-put-reply-requires
-put-reply-requires c κs = search needs
-
-clear-requires-2 : tie.Need-clear-requires-2
-clear-requires-2 c κs = search needs
-
-same-length : tie.Need-same-length
-same-length c = search needs
-
 returns : tie.Need-returns
 returns c =
     let a = c .before .before .before .before .before .before .before .before .before .before .before .before .before .before .before .before .args in
@@ -30,9 +18,6 @@ returns c =
     let k : length (p .last .0) ≡ length (now (a .out)) = p .kept .0 ∙ c .before .before .before .before .before .before .before .before .before .before .before .clear .kept .0 in
     let l = lacks (replyText (now (a .book)) (now (a .sheet))) (p .result) (length (now (a .out))) (p .ensures .0) (rw k at (c .before .before .before .before .if1 .taken)) in
     (l .0, c .before .before .clear2 .ensures ∙ ap (λ (n : ℕ). replicate n 0) k ∙ l .1)
-
-same-length-2 : tie.Need-same-length-2
-same-length-2 c = search needs
 
 returns-2 : tie.Need-returns-2
 returns-2 c =
@@ -47,11 +32,4 @@ returns-2 c =
 pub reply-spec : {M : Type 1} → statement M
 reply-spec =
     tie.close
-    (tie.spec
-    clear-requires
-    put-reply-requires
-    clear-requires-2
-    same-length
-    returns
-    same-length-2
-    returns-2)
+    (tie.spec (λ c κs. search needs) (λ c κs. search needs) (λ c κs. search needs) (λ c. search needs) returns (λ c. search needs) returns-2)

@@ -3,21 +3,6 @@ use borrow.Author.Needs.{needs}
 use Rattle.round_answers.proofs.joining_numbers.Statement.{statement}
 use Rattle.round_answers.proofs.joining_numbers.Tie as tie
 
-enum-known-j : tie.Need-enum-known-j
-enum-known-j c = search needs
-
-enum-told : tie.Need-enum-told
-enum-told c = search needs
-
-enum-told-2 : tie.Need-enum-told-2
-enum-told-2 c = search needs
-
-enum-told-3 : tie.Need-enum-told-3
-enum-told-3 c = search needs
-
-enum-told-4 : tie.Need-enum-told-4
-enum-told-4 c = search needs
-
 returns : tie.Need-returns
 returns c = rw (c .before .j .given .1)
 
@@ -36,14 +21,5 @@ returns-5 c = rw (c .enum-told4 .given .1)
 pub joining-numbers-spec : {M : Type 1} → statement M
 joining-numbers-spec =
     tie.close
-    (tie.spec
-    enum-known-j
-    enum-told
-    enum-told-2
-    enum-told-3
-    enum-told-4
-    returns
-    returns-2
-    returns-3
-    returns-4
-    returns-5)
+    (tie.spec (λ c. search needs) (λ c. search needs) (λ c. search needs) (λ c. search needs) (λ c. search needs) returns returns-2 returns-3
+    returns-4 returns-5)

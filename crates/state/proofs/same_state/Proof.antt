@@ -6,15 +6,9 @@ use Rattle.state.specs.State.{sameState}
 use Rattle.state.proofs.same_state.Statement.{statement}
 use Rattle.state.proofs.same_state.Tie as tie
 
-same-marks-requires : tie.Need-same-marks-requires
-same-marks-requires c κs = search needs
-
 returns : tie.Need-returns
 unfolding sameState
 returns c = rw (sym (c .before .same-marks .ensures) ∙ not-true (c .before .same-marks .result) (c .if1 .taken))
-
-same-orders-requires : tie.Need-same-orders-requires
-same-orders-requires c κs = search needs
 
 returns-2 : tie.Need-returns-2
 unfolding sameState
@@ -23,9 +17,6 @@ returns-2 c =
       sym (c .before .before .before .same-marks .ensures) ∙ not-false (c .before .before .before .same-marks .result) (c .before .before .if1 .left),
       sym (c .before .same-orders .ensures) ∙ not-true (c .before .same-orders .result) (c .if2 .taken),
     )
-
-same-positions-requires : tie.Need-same-positions-requires
-same-positions-requires c κs = search needs
 
 returns-3 : tie.Need-returns-3
 unfolding sameState
@@ -38,10 +29,4 @@ returns-3 c =
 pub same-state-spec : {M : Type 1} → statement M
 same-state-spec =
     tie.close
-    (tie.spec
-    same-marks-requires
-    returns
-    same-orders-requires
-    returns-2
-    same-positions-requires
-    returns-3)
+    (tie.spec (λ c κs. search needs) returns (λ c κs. search needs) returns-2 (λ c κs. search needs) returns-3)

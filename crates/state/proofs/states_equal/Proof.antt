@@ -6,33 +6,6 @@ use mathlib.Core.Path.{sym, ap, _∙_}
 use Rattle.state.specs.State.{statesEqual, sameState}
 use Rattle.state.specs.declared.Equality.the-variants as E
 
-check-state-requires : tie.Need-check-state-requires
-check-state-requires c κs = search needs
-
-check-state-requires-2 : tie.Need-check-state-requires-2
-check-state-requires-2 c κs = search needs
-
-both-requires : tie.Need-both-requires
-both-requires c κs = search needs
-
-enum-told : tie.Need-enum-told
-enum-told c = search needs
-
-text-requires : tie.Need-text-requires
-text-requires c κs = search needs
-
-text-requires-2 : tie.Need-text-requires-2
-text-requires-2 c κs = search needs
-
-same-state-requires : tie.Need-same-state-requires
-same-state-requires c κs = search needs
-
-enum-told-2 : tie.Need-enum-told-2
-enum-told-2 c = search needs
-
-enum-told-3 : tie.Need-enum-told-3
-enum-told-3 c = search needs
-
 returns : tie.Need-returns
 unfolding statesEqual
 returns c =
@@ -56,16 +29,5 @@ returns-3 c =
 pub states-equal-spec : {M : Type 1} → statement M
 states-equal-spec =
     tie.close
-    (tie.spec
-    check-state-requires
-    check-state-requires-2
-    both-requires
-    enum-told
-    text-requires
-    text-requires-2
-    same-state-requires
-    enum-told-2
-    enum-told-3
-    returns
-    returns-2
-    returns-3)
+    (tie.spec (λ c κs. search needs) (λ c κs. search needs) (λ c κs. search needs) (λ c. search needs) (λ c κs. search needs) (λ c κs. search needs)
+    (λ c κs. search needs) (λ c. search needs) (λ c. search needs) returns returns-2 returns-3)

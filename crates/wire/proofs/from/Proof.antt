@@ -8,18 +8,6 @@ use Rattle.wire.proofs.Numbers.{drop-whole}
 use Rattle.wire.proofs.from.Statement.{statement}
 use Rattle.wire.proofs.from.Tie as tie
 
-sub-result : tie.Need-sub-result
-sub-result c = search needs
-
-part-result-start : tie.Need-part-result-start
-part-result-start c = search needs
-
-part-result-end : tie.Need-part-result-end
-part-result-end c = search needs
-
-slice-aggregate-result : tie.Need-slice-aggregate-result
-slice-aggregate-result c = search needs
-
 returns : tie.Need-returns
 returns c = drop-whole (c .before .before .args .at) (now (c .before .before .args .s))
 
@@ -29,10 +17,4 @@ returns-2 c = sym (drop-of-length-le (now (c .before .before .args .s)) (le-of-l
 pub from-spec : {M : Type 1} → statement M
 from-spec =
     tie.close
-    (tie.spec
-    sub-result
-    part-result-start
-    part-result-end
-    slice-aggregate-result
-    returns
-    returns-2)
+    (tie.spec (λ c. search needs) (λ c. search needs) (λ c. search needs) (λ c. search needs) returns returns-2)

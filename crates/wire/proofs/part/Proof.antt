@@ -8,9 +8,6 @@ use lib.Seq.{take-all, length-take-le}
 use Rattle.wire.proofs.part.Statement.{statement}
 use Rattle.wire.proofs.part.Tie as tie
 
-from-requires : tie.Need-from-requires
-from-requires c κs = search needs
-
 slice-aggregate-result : tie.Need-slice-aggregate-result
 slice-aggregate-result c = sym (length-take-le (c .before .before .before .before .args .len) (now (c .before .before .from .result)) (c .before .if1 .taken))
 
@@ -23,4 +20,4 @@ returns-2 c =
     sym (take-all (a .len) (now (c .before .from .result)) (le-of-lt (c .if1 .left))) ∙ ap (take (a .len)) (c .before .from .ensures)
 
 pub part-spec : {M : Type 1} → statement M
-part-spec = tie.close (tie.spec from-requires slice-aggregate-result returns returns-2)
+part-spec = tie.close (tie.spec (λ c κs. search needs) slice-aggregate-result returns returns-2)

@@ -15,47 +15,11 @@ returns c =
     let a = c .before .before .args in
     sym (sets-past (now (a .d)) (a .at) (bytesOf 4 (a .x)) (c .if1 .taken))
 
-sub-if2 : tie.Need-sub-if2
-sub-if2 c = search needs
-
-put-requires : tie.Need-put-requires
-put-requires c κs = search needs
-
-same-length : tie.Need-same-length
-same-length c = search needs
-
-returns-2 : tie.Need-returns-2
-returns-2 c = search needs
-
-cast-d : tie.Need-cast-d
-cast-d c = search needs
-
-slice-write-d : tie.Need-slice-write-d
-slice-write-d c = search needs
-
-cast-d-2 : tie.Need-cast-d-2
-cast-d-2 c = search needs
-
-add-d : tie.Need-add-d
-add-d c = search needs
-
 slice-write-d-2 : tie.Need-slice-write-d-2
 slice-write-d-2 c = simp length-set (omega arith)
 
-cast-d-3 : tie.Need-cast-d-3
-cast-d-3 c = search needs
-
-add-d-2 : tie.Need-add-d-2
-add-d-2 c = search needs
-
 slice-write-d-3 : tie.Need-slice-write-d-3
 slice-write-d-3 c = simp length-set (omega arith)
-
-cast-d-4 : tie.Need-cast-d-4
-cast-d-4 c = search needs
-
-add-d-3 : tie.Need-add-d-3
-add-d-3 c = search needs
 
 slice-write-d-4 : tie.Need-slice-write-d-4
 slice-write-d-4 c = simp length-set (omega arith)
@@ -71,22 +35,6 @@ returns-3 c =
 pub put-u32-spec : {M : Type 1} → statement M
 put-u32-spec =
     tie.close
-    (tie.spec
-    returns
-    sub-if2
-    put-requires
-    same-length
-    returns-2
-    cast-d
-    slice-write-d
-    cast-d-2
-    add-d
-    slice-write-d-2
-    cast-d-3
-    add-d-2
-    slice-write-d-3
-    cast-d-4
-    add-d-3
-    slice-write-d-4
-    same-length-2
-    returns-3)
+    (tie.spec returns (λ c. search needs) (λ c κs. search needs) (λ c. search needs) (λ c. search needs) (λ c. search needs) (λ c. search needs)
+    (λ c. search needs) (λ c. search needs) slice-write-d-2 (λ c. search needs) (λ c. search needs) slice-write-d-3 (λ c. search needs)
+    (λ c. search needs) slice-write-d-4 same-length-2 returns-3)

@@ -12,27 +12,8 @@ returns c =
     let a = c .before .before .args in
     sym (sets-past (now (a .d)) (a .at) (bytesOf 8 (a .x)) (c .if1 .taken))
 
-sub-if2 : tie.Need-sub-if2
-sub-if2 c = search needs
-
-put-requires : tie.Need-put-requires
-put-requires c κs = search needs
-
-same-length : tie.Need-same-length
-same-length c = search needs
-
-returns-2 : tie.Need-returns-2
-returns-2 c = search needs
-
-put-whole-u64-requires : tie.Need-put-whole-u64-requires
-put-whole-u64-requires c κs = search needs
-
-same-length-2 : tie.Need-same-length-2
-same-length-2 c = search needs
-
-returns-3 : tie.Need-returns-3
-returns-3 c = search needs
-
 pub put-u64-spec : {M : Type 1} → statement M
 put-u64-spec =
-    tie.close (tie.spec returns sub-if2 put-requires same-length returns-2 put-whole-u64-requires same-length-2 returns-3)
+    tie.close
+    (tie.spec returns (λ c. search needs) (λ c κs. search needs) (λ c. search needs) (λ c. search needs) (λ c κs. search needs) (λ c. search needs)
+    (λ c. search needs))

@@ -13,16 +13,10 @@ returns c =
     let a = c .before .args in
     sym (sets-past (now (a .d)) (a .at) (bytesOf 1 (a .x)) (c .if1 .taken))
 
-slice-write-d : tie.Need-slice-write-d
-slice-write-d c = search needs
-
-same-length : tie.Need-same-length
-same-length c = search needs
-
 returns-2 : tie.Need-returns-2
 returns-2 c =
     let a = c .before .args in
     one-store (now (a .d)) (a .at) (a .x) (search needs)
 
 pub put-u8-spec : {M : Type 1} → statement M
-put-u8-spec = tie.close (tie.spec returns slice-write-d same-length returns-2)
+put-u8-spec = tie.close (tie.spec returns (λ c. search needs) (λ c. search needs) returns-2)

@@ -8,19 +8,10 @@ use Rattle.wire.proofs.TwosComplement.{high}
 use Rattle.wire.proofs.signed.Statement.{statement}
 use Rattle.wire.proofs.signed.Tie as tie
 
-cast-result : tie.Need-cast-result
-cast-result c = search needs
-
-cast-result-2 : tie.Need-cast-result-2
-cast-result-2 c = search needs
-
 add-result : tie.Need-add-result
 add-result c =
     let u = c .before .args .bits in
     rw (high w64 9223372036854775807 u refl (c .if1 .left) (search needs)) (toZ-fits w64 u (search needs))
-
-returns : tie.Need-returns
-returns c = search needs
 
 returns-2 : tie.Need-returns-2
 returns-2 c =
@@ -28,4 +19,6 @@ returns-2 c =
     rw (high w64 9223372036854775807 u refl (c .if1 .left) (search needs)) (toZ-ofZ w64 (toZ w64 u) (toZ-fits w64 u (search needs)))
 
 pub signed-spec : {M : Type 1} → statement M
-signed-spec = tie.close (tie.spec cast-result cast-result-2 add-result returns returns-2)
+signed-spec =
+    tie.close
+    (tie.spec (λ c. search needs) (λ c. search needs) add-result (λ c. search needs) returns-2)

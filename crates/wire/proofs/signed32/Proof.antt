@@ -8,19 +8,10 @@ use Rattle.wire.proofs.TwosComplement.{high}
 use Rattle.wire.proofs.signed32.Statement.{statement}
 use Rattle.wire.proofs.signed32.Tie as tie
 
-cast-result : tie.Need-cast-result
-cast-result c = search needs
-
-cast-result-2 : tie.Need-cast-result-2
-cast-result-2 c = search needs
-
 add-result : tie.Need-add-result
 add-result c =
     let u = c .before .args .bits in
     rw (high w32 2147483647 u refl (c .if1 .left) (search needs)) (toZ-fits w32 u (search needs))
-
-returns : tie.Need-returns
-returns c = search needs
 
 returns-2 : tie.Need-returns-2
 returns-2 c =
@@ -28,4 +19,6 @@ returns-2 c =
     rw (high w32 2147483647 u refl (c .if1 .left) (search needs)) (toZ-ofZ w32 (toZ w32 u) (toZ-fits w32 u (search needs)))
 
 pub signed32-spec : {M : Type 1} → statement M
-signed32-spec = tie.close (tie.spec cast-result cast-result-2 add-result returns returns-2)
+signed32-spec =
+    tie.close
+    (tie.spec (λ c. search needs) (λ c. search needs) add-result (λ c. search needs) returns-2)

@@ -3,14 +3,8 @@ use borrow.Author.Needs.{needs}
 use Rattle.wire.proofs.u8_at.Statement.{statement}
 use Rattle.wire.proofs.u8_at.Tie as tie
 
-from-requires : tie.Need-from-requires
-from-requires c κs = search needs
-
-u8-of-requires : tie.Need-u8-of-requires
-u8-of-requires c κs = search needs
-
 returns : tie.Need-returns
 returns c = cc
 
 pub u8-at-spec : {M : Type 1} → statement M
-u8-at-spec = tie.close (tie.spec from-requires u8-of-requires returns)
+u8-at-spec = tie.close (tie.spec (λ c κs. search needs) (λ c κs. search needs) returns)

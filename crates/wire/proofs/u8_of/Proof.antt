@@ -6,9 +6,6 @@ use Rattle.wire.proofs.Numbers.{le-front, le-empty}
 use Rattle.wire.proofs.u8_of.Statement.{statement}
 use Rattle.wire.proofs.u8_of.Tie as tie
 
-shared-slice-read-result : tie.Need-shared-slice-read-result
-shared-slice-read-result c = search needs
-
 returns : tie.Need-returns
 returns c = le-front (now (c .before .before .args .s))
 
@@ -16,4 +13,4 @@ returns-2 : tie.Need-returns-2
 returns-2 c = sym (le-empty 1 (now (c .before .args .s)) (c .if1 .left))
 
 pub u8-of-spec : {M : Type 1} → statement M
-u8-of-spec = tie.close (tie.spec shared-slice-read-result returns returns-2)
+u8-of-spec = tie.close (tie.spec (λ c. search needs) returns returns-2)

@@ -24,4 +24,5 @@ returns-2 c = below-bits w64 (c .before .args .x) (c .before .fits .x) (c .if1 .
 
 pub unsigned-spec : {M : Type 1} → statement M
 unsigned-spec =
-    tie.close (tie.spec cast-result sub-result cast-result-2 sub-result-2 returns returns-2)
+    tie.close
+    (tie.spec cast-result sub-result cast-result-2 sub-result-2 returns returns-2)

@@ -7,21 +7,6 @@ use Rattle.wire.proofs.Numbers.{le-at}
 use Rattle.wire.proofs.whole_u32.Statement.{statement}
 use Rattle.wire.proofs.whole_u32.Tie as tie
 
-shared-slice-read-four : tie.Need-shared-slice-read-four
-shared-slice-read-four c = search needs
-
-shared-slice-read-four-2 : tie.Need-shared-slice-read-four-2
-shared-slice-read-four-2 c = search needs
-
-shared-slice-read-four-3 : tie.Need-shared-slice-read-four-3
-shared-slice-read-four-3 c = search needs
-
-shared-slice-read-four-4 : tie.Need-shared-slice-read-four-4
-shared-slice-read-four-4 c = search needs
-
-four-requires : tie.Need-four-requires
-four-requires c κs = search needs
-
 returns : tie.Need-returns
 unfolding le
 returns c =
@@ -31,10 +16,4 @@ returns c =
 pub whole-u32-spec : {M : Type 1} → statement M
 whole-u32-spec =
     tie.close
-    (tie.spec
-    shared-slice-read-four
-    shared-slice-read-four-2
-    shared-slice-read-four-3
-    shared-slice-read-four-4
-    four-requires
-    returns)
+    (tie.spec (λ c. search needs) (λ c. search needs) (λ c. search needs) (λ c. search needs) (λ c κs. search needs) returns)

@@ -7,33 +7,6 @@ use Rattle.wire.proofs.Numbers.{le-at}
 use Rattle.wire.proofs.whole_u64.Statement.{statement}
 use Rattle.wire.proofs.whole_u64.Tie as tie
 
-shared-slice-read-eight : tie.Need-shared-slice-read-eight
-shared-slice-read-eight c = search needs
-
-shared-slice-read-eight-2 : tie.Need-shared-slice-read-eight-2
-shared-slice-read-eight-2 c = search needs
-
-shared-slice-read-eight-3 : tie.Need-shared-slice-read-eight-3
-shared-slice-read-eight-3 c = search needs
-
-shared-slice-read-eight-4 : tie.Need-shared-slice-read-eight-4
-shared-slice-read-eight-4 c = search needs
-
-shared-slice-read-eight-5 : tie.Need-shared-slice-read-eight-5
-shared-slice-read-eight-5 c = search needs
-
-shared-slice-read-eight-6 : tie.Need-shared-slice-read-eight-6
-shared-slice-read-eight-6 c = search needs
-
-shared-slice-read-eight-7 : tie.Need-shared-slice-read-eight-7
-shared-slice-read-eight-7 c = search needs
-
-shared-slice-read-eight-8 : tie.Need-shared-slice-read-eight-8
-shared-slice-read-eight-8 c = search needs
-
-eight-requires : tie.Need-eight-requires
-eight-requires c κs = search needs
-
 returns : tie.Need-returns
 unfolding le
 returns c =
@@ -43,14 +16,5 @@ returns c =
 pub whole-u64-spec : {M : Type 1} → statement M
 whole-u64-spec =
     tie.close
-    (tie.spec
-    shared-slice-read-eight
-    shared-slice-read-eight-2
-    shared-slice-read-eight-3
-    shared-slice-read-eight-4
-    shared-slice-read-eight-5
-    shared-slice-read-eight-6
-    shared-slice-read-eight-7
-    shared-slice-read-eight-8
-    eight-requires
-    returns)
+    (tie.spec (λ c. search needs) (λ c. search needs) (λ c. search needs) (λ c. search needs) (λ c. search needs) (λ c. search needs)
+    (λ c. search needs) (λ c. search needs) (λ c κs. search needs) returns)

@@ -5,9 +5,6 @@ use lib.ListN.{length-drop}
 use Rattle.wire.proofs.whole_u64_at.Statement.{statement}
 use Rattle.wire.proofs.whole_u64_at.Tie as tie
 
-rest-requires : tie.Need-rest-requires
-rest-requires c κs = search needs
-
 whole-u64-requires : tie.Need-whole-u64-requires
 whole-u64-requires c κs = rw (c .rest .ensures, length-drop) (omega arith)
 
@@ -15,4 +12,4 @@ returns : tie.Need-returns
 returns c = cc
 
 pub whole-u64-at-spec : {M : Type 1} → statement M
-whole-u64-at-spec = tie.close (tie.spec rest-requires whole-u64-requires returns)
+whole-u64-at-spec = tie.close (tie.spec (λ c κs. search needs) whole-u64-requires returns)

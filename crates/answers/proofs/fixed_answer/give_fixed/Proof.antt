@@ -9,27 +9,6 @@ use Rattle.answers.proofs.Answers.{carry, not-finite, out-of-range}
 use Rattle.answers.proofs.fixed_answer.give_fixed.Statement.{statement}
 use Rattle.answers.proofs.fixed_answer.give_fixed.Tie as tie
 
-enum-told : tie.Need-enum-told
-enum-told c = search needs
-
-clear-requires : tie.Need-clear-requires
-clear-requires c κs = search needs
-
-enum-told-2 : tie.Need-enum-told-2
-enum-told-2 c = search needs
-
-clear-requires-2 : tie.Need-clear-requires-2
-clear-requires-2 c κs = search needs
-
-enum-known-r : tie.Need-enum-known-r
-enum-known-r c = search needs
-
-give-value-requires : tie.Need-give-value-requires
-give-value-requires c κs = search needs
-
-same-length : tie.Need-same-length
-same-length c = search needs
-
 returns : tie.Need-returns
 returns c =
     let clear = c .before .before in
@@ -37,18 +16,12 @@ returns c =
     let room = length (arm .before .before .before .args .answer .now) in
     carry room (arm .enum-told .given .1) (clear .clear .ensures) (not-finite room)
 
-same-length-2 : tie.Need-same-length-2
-same-length-2 c = search needs
-
 returns-2 : tie.Need-returns-2
 returns-2 c =
     let clear = c .before .before in
     let arm = clear .before .before in
     let room = length (arm .before .before .before .args .answer .now) in
     carry room (arm .enum-told2 .given .1) (clear .clear2 .ensures) (out-of-range room)
-
-same-length-3 : tie.Need-same-length-3
-same-length-3 c = search needs
 
 returns-3 : tie.Need-returns-3
 returns-3 c =
@@ -63,16 +36,5 @@ returns-3 c =
 pub give-fixed-spec : {M : Type 1} → statement M
 give-fixed-spec =
     tie.close
-    (tie.spec
-    enum-told
-    clear-requires
-    enum-told-2
-    clear-requires-2
-    enum-known-r
-    give-value-requires
-    same-length
-    returns
-    same-length-2
-    returns-2
-    same-length-3
-    returns-3)
+    (tie.spec (λ c. search needs) (λ c κs. search needs) (λ c. search needs) (λ c κs. search needs) (λ c. search needs) (λ c κs. search needs)
+    (λ c. search needs) returns (λ c. search needs) returns-2 (λ c. search needs) returns-3)

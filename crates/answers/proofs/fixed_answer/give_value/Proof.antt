@@ -16,15 +16,6 @@ use Rattle.answers.proofs.Words.{number-as-cleared}
 use Rattle.answers.proofs.fixed_answer.give_value.Statement.{statement}
 use Rattle.answers.proofs.fixed_answer.give_value.Tie as tie
 
-unsigned-requires : tie.Need-unsigned-requires
-unsigned-requires c κs = search needs
-
-put-whole-u64-requires : tie.Need-put-whole-u64-requires
-put-whole-u64-requires c κs = search needs
-
-same-length : tie.Need-same-length
-same-length c = search needs
-
 returns : tie.Need-returns
 returns c =
     let put = c .before .before in
@@ -36,21 +27,6 @@ returns c =
     value-within v (length d)
     (within-whole 8 0 (test .if1 .taken)
     (put .put-whole-u64 .ensures ∙ ap (λ (n : ℕ). sets d 0 (bytesOf 8 n)) bits ∙ number-as-cleared d (ofZ w64 v) (test .if1 .taken)))
-
-clear-requires : tie.Need-clear-requires
-clear-requires c κs = search needs
-
-unsigned-requires-2 : tie.Need-unsigned-requires-2
-unsigned-requires-2 c κs = search needs
-
-put-u64-requires : tie.Need-put-u64-requires
-put-u64-requires c κs = search needs
-
-within-requires : tie.Need-within-requires
-within-requires c κs = search needs
-
-same-length-2 : tie.Need-same-length-2
-same-length-2 c = search needs
 
 returns-2 : tie.Need-returns-2
 returns-2 c =
@@ -68,14 +44,5 @@ returns-2 c =
 pub give-value-spec : {M : Type 1} → statement M
 give-value-spec =
     tie.close
-    (tie.spec
-    unsigned-requires
-    put-whole-u64-requires
-    same-length
-    returns
-    clear-requires
-    unsigned-requires-2
-    put-u64-requires
-    within-requires
-    same-length-2
-    returns-2)
+    (tie.spec (λ c κs. search needs) (λ c κs. search needs) (λ c. search needs) returns (λ c κs. search needs) (λ c κs. search needs)
+    (λ c κs. search needs) (λ c κs. search needs) (λ c. search needs) returns-2)

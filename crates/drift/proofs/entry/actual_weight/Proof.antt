@@ -12,15 +12,6 @@ use Rattle.drift.specs.Code.{wholeOf, weightAnswer}
 use Rattle.drift.specs.declared.whole.Whole.the-variants as Z
 use Rattle.drift.proofs.Answers.{sign-test, whole-is, whole-over}
 
-times-requires : tie.Need-times-requires
-times-requires c κs = search needs
-
-enum-known-product : tie.Need-enum-known-product
-enum-known-product c = search needs
-
-enum-told : tie.Need-enum-told
-enum-told c = search needs
-
 returns : tie.Need-returns
 unfolding weightAnswer actualWeight
 returns c =
@@ -28,12 +19,6 @@ returns c =
     let z = s .args .quantity *ℤ s .args .price in
     let w : wholeOf z ≡ Z.Over = rw (toZ-ofZ w64 (s .args .quantity) (s .fits .quantity), toZ-ofZ w64 (s .args .price) (s .fits .price)) at (sym (c .before .before .times .ensures) ∙ c .enum-told .given .1) in
     rw (sign-test (s .args .equity) true (s .fits .equity) (c .before .before .before .before .if1 .taken), sign-test (s .args .price) true (s .fits .price) (c .before .before .before .if2 .taken), whole-over z w)
-
-nearest-i64-requires : tie.Need-nearest-i64-requires
-nearest-i64-requires c κs = search needs
-
-nearest-i64-requires-2 : tie.Need-nearest-i64-requires-2
-nearest-i64-requires-2 c κs = search needs
 
 returns-2 : tie.Need-returns-2
 unfolding weightAnswer actualWeight
@@ -67,13 +52,5 @@ returns-4 c = rw (sign-test (c .before .args .equity) false (c .before .fits .eq
 pub actual-weight-spec : {M : Type 1} → statement M
 actual-weight-spec =
     tie.close
-    (tie.spec
-    times-requires
-    enum-known-product
-    enum-told
-    returns
-    nearest-i64-requires
-    nearest-i64-requires-2
-    returns-2
-    returns-3
+    (tie.spec (λ c κs. search needs) (λ c. search needs) (λ c. search needs) returns (λ c κs. search needs) (λ c κs. search needs) returns-2 returns-3
     returns-4)

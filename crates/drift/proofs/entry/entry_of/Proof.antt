@@ -12,15 +12,6 @@ use Rattle.drift.specs.declared.whole.Whole.the-variants as Z
 use Rattle.drift.specs.declared.entry.Weight.the-variants as W
 use Rattle.drift.proofs.Answers.{weight-is, weight-over, whole-is, whole-over}
 
-actual-weight-requires : tie.Need-actual-weight-requires
-actual-weight-requires c κs = search needs
-
-enum-known-held : tie.Need-enum-known-held
-enum-known-held c = search needs
-
-enum-told : tie.Need-enum-told
-enum-told c = search needs
-
 returns : tie.Need-returns
 unfolding madeOf entryFits entryOf
 returns c =
@@ -30,18 +21,6 @@ returns c =
     let e = s .args .equity in
     let w : weightAnswer q p e ≡ W.Over = rw (toZ-ofZ w64 q (s .fits .quantity), toZ-ofZ w64 p (s .fits .price), toZ-ofZ w64 e (s .fits .equity)) at (sym (c .before .before .actual-weight .ensures) ∙ c .enum-told .given .1) in
     rw (weight-over q p e w)
-
-target-shares-requires : tie.Need-target-shares-requires
-target-shares-requires c κs = search needs
-
-minus-requires : tie.Need-minus-requires
-minus-requires c κs = search needs
-
-enum-known-difference : tie.Need-enum-known-difference
-enum-known-difference c = search needs
-
-enum-told-2 : tie.Need-enum-told-2
-enum-told-2 c = search needs
 
 returns-2 : tie.Need-returns-2
 unfolding madeOf entryFits entryOf
@@ -75,14 +54,5 @@ returns-3 c =
 pub entry-of-spec : {M : Type 1} → statement M
 entry-of-spec =
     tie.close
-    (tie.spec
-    actual-weight-requires
-    enum-known-held
-    enum-told
-    returns
-    target-shares-requires
-    minus-requires
-    enum-known-difference
-    enum-told-2
-    returns-2
-    returns-3)
+    (tie.spec (λ c κs. search needs) (λ c. search needs) (λ c. search needs) returns (λ c κs. search needs) (λ c κs. search needs) (λ c. search needs)
+    (λ c. search needs) returns-2 returns-3)

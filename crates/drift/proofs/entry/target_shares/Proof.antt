@@ -9,15 +9,6 @@ use mir.ValLaws.{toZ-ofZ}
 use Rattle.drift.specs.Entry.{targetShares}
 use Rattle.drift.proofs.Answers.{sign-test}
 
-nearest-i64-requires : tie.Need-nearest-i64-requires
-nearest-i64-requires c κs = search needs
-
-nearest-i64-requires-2 : tie.Need-nearest-i64-requires-2
-nearest-i64-requires-2 c κs = search needs
-
-saturating-i64-requires : tie.Need-saturating-i64-requires
-saturating-i64-requires c κs = search needs
-
 returns : tie.Need-returns
 unfolding targetShares
 returns c =
@@ -39,9 +30,4 @@ returns-2 c = rw (sign-test (c .before .args .price) false (c .before .fits .pri
 pub target-shares-spec : {M : Type 1} → statement M
 target-shares-spec =
     tie.close
-    (tie.spec
-    nearest-i64-requires
-    nearest-i64-requires-2
-    saturating-i64-requires
-    returns
-    returns-2)
+    (tie.spec (λ c κs. search needs) (λ c κs. search needs) (λ c κs. search needs) returns returns-2)

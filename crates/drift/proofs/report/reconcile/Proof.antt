@@ -12,21 +12,6 @@ use Rattle.symbol.proofs.Text.{bytes-of}
 use Rattle.drift.proofs.Looked.{sound-rows}
 use Rattle.drift.proofs.Refusals.{sound-lists, refused-oversize, refused-broken, refused-weight, reported, report-bytes}
 
-clear-requires : tie.Need-clear-requires
-clear-requires c κs = search needs
-
-check-lists-requires : tie.Need-check-lists-requires
-check-lists-requires c κs = search needs
-
-enum-told : tie.Need-enum-told
-enum-told c = search needs
-
-enum-told-2 : tie.Need-enum-told-2
-enum-told-2 c = search needs
-
-enum-told-3 : tie.Need-enum-told-3
-enum-told-3 c = search needs
-
 weights-ok-requires : tie.Need-weights-ok-requires
 weights-ok-requires c κs =
     let a = c .before .before .before .before .before .before .before .before .before .before .before .args in
@@ -47,9 +32,6 @@ report-requires c κs =
     let l = sym (c .before .before .before .before .before .check-lists .ensures) ∙ c .before .before .before .enum-told3 .given .1 in
     (sound-lists p t q l, c .before .before .before .before .before .before .before .before .clear .ensures ∙ ap (λ (m : ℕ). replicate {A = ℕ} m 0) (sym (c .before .before .before .before .before .before .before .before .clear .kept .0)))
 
-same-length : tie.Need-same-length
-same-length c = search needs
-
 returns : tie.Need-returns
 returns c =
     let a = c .before .before .before .before .before .before .before .before .before .before .before .args in
@@ -61,9 +43,6 @@ returns c =
     let r = refused-oversize p t q (a .equity) room l in
     (r .0, c .before .before .before .before .before .clear .ensures ∙ r .1)
 
-same-length-2 : tie.Need-same-length-2
-same-length-2 c = search needs
-
 returns-2 : tie.Need-returns-2
 returns-2 c =
     let a = c .before .before .before .before .before .before .before .before .before .before .before .args in
@@ -74,9 +53,6 @@ returns-2 c =
     let l = sym (c .before .before .check-lists .ensures) ∙ c .enum-told2 .given .1 in
     let r = refused-broken p t q (a .equity) room l in
     (r .0, c .before .before .before .before .before .clear .ensures ∙ r .1)
-
-same-length-3 : tie.Need-same-length-3
-same-length-3 c = search needs
 
 returns-3 : tie.Need-returns-3
 returns-3 c =
@@ -90,9 +66,6 @@ returns-3 c =
     let e = rw (c .before .before .before .before .before .before .before .before .before .before .before .clear .kept .0, toZ-ofZ w64 (a .equity) (c .before .before .before .before .before .before .before .before .before .before .before .before .before .before .before .before .before .fits .equity)) at (c .before .before .report .ensures) in
     let d = e .0 ∙ sym (reported p t q (a .equity) room l w) in
     (d, e .1 ∙ report-bytes p t q (a .equity) room (c .before .before .report .result) d)
-
-same-length-4 : tie.Need-same-length-4
-same-length-4 c = search needs
 
 returns-4 : tie.Need-returns-4
 returns-4 c =
@@ -109,19 +82,5 @@ returns-4 c =
 pub reconcile-spec : {M : Type 1} → statement M
 reconcile-spec =
     tie.close
-    (tie.spec
-    clear-requires
-    check-lists-requires
-    enum-told
-    enum-told-2
-    enum-told-3
-    weights-ok-requires
-    report-requires
-    same-length
-    returns
-    same-length-2
-    returns-2
-    same-length-3
-    returns-3
-    same-length-4
-    returns-4)
+    (tie.spec (λ c κs. search needs) (λ c κs. search needs) (λ c. search needs) (λ c. search needs) (λ c. search needs) weights-ok-requires
+    report-requires (λ c. search needs) returns (λ c. search needs) returns-2 (λ c. search needs) returns-3 (λ c. search needs) returns-4)

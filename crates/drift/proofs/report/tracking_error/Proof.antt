@@ -9,15 +9,6 @@ use Rattle.float.specs.Root.{sqrt}
 use lib.IntN.{pos}
 use Rattle.drift.specs.Report.{trackingError}
 
-at-least-one-requires : tie.Need-at-least-one-requires
-at-least-one-requires c κs = search needs
-
-nearest-u64-requires : tie.Need-nearest-u64-requires
-nearest-u64-requires c κs = search needs
-
-sqrt-requires : tie.Need-sqrt-requires
-sqrt-requires c κs = search needs
-
 returns : tie.Need-returns
 unfolding trackingError ofBits ofInt
 returns c =
@@ -26,4 +17,5 @@ returns c =
 
 pub tracking-error-spec : {M : Type 1} → statement M
 tracking-error-spec =
-    tie.close (tie.spec at-least-one-requires nearest-u64-requires sqrt-requires returns)
+    tie.close
+    (tie.spec (λ c κs. search needs) (λ c κs. search needs) (λ c κs. search needs) returns)

@@ -42,45 +42,6 @@ loop-holds c =
     let e = left-all (lineAt (now (a .keys)) (now (a .quantities)) (now (a .weights)) (now (a .costs))) (a .n) in
     (refl, omega arith, rw e, rw e, rw (e, mul-zero 64))
 
-mul-signed : tie.Need-mul-signed Inv-loop μ-loop
-mul-signed c = search needs
-
-shared-slice-read-signed : tie.Need-shared-slice-read-signed Inv-loop μ-loop
-shared-slice-read-signed c = search needs
-
-signed-requires : tie.Need-signed-requires Inv-loop μ-loop
-signed-requires c κs = search needs
-
-mul-from-bits : tie.Need-mul-from-bits Inv-loop μ-loop
-mul-from-bits c = search needs
-
-shared-slice-read-from-bits : tie.Need-shared-slice-read-from-bits Inv-loop μ-loop
-shared-slice-read-from-bits c = search needs
-
-from-bits-requires : tie.Need-from-bits-requires Inv-loop μ-loop
-from-bits-requires c κs = search needs
-
-mul-signed-2 : tie.Need-mul-signed-2 Inv-loop μ-loop
-mul-signed-2 c = search needs
-
-shared-slice-read-signed-2 : tie.Need-shared-slice-read-signed-2 Inv-loop μ-loop
-shared-slice-read-signed-2 c = search needs
-
-signed-requires-2 : tie.Need-signed-requires-2 Inv-loop μ-loop
-signed-requires-2 c κs = search needs
-
-entry-of-requires : tie.Need-entry-of-requires Inv-loop μ-loop
-entry-of-requires c κs = search needs
-
-enum-known-made : tie.Need-enum-known-made Inv-loop μ-loop
-enum-known-made c = search needs
-
-enum-told : tie.Need-enum-told Inv-loop μ-loop
-enum-told c = search needs
-
-clear-requires : tie.Need-clear-requires Inv-loop μ-loop
-clear-requires c κs = search needs
-
 same-length : tie.Need-same-length Inv-loop μ-loop
 same-length c = c .before .before .clear .kept .0 ∙ c .before .before .before .before .before .before .before .before .before .before .before .before .before .before .loop .inv .0
 
@@ -99,24 +60,6 @@ returns c =
       out-of-range f (a .n) e (length (now (a .entries))) (l .inv .2 ∙ all-stop f (a .n) (lineFits e) (l .k) (c .before .before .before .before .before .before .before .before .before .before .before .before .before .loop-test .taken) r),
       c .before .before .clear .ensures ∙ ap (λ (m : ℕ). replicate {A = ℕ} m 0) (l .inv .0),
     )
-
-mul-put-entry : tie.Need-mul-put-entry Inv-loop μ-loop
-mul-put-entry c = search needs
-
-mul-put-entry-2 : tie.Need-mul-put-entry-2 Inv-loop μ-loop
-mul-put-entry-2 c = search needs
-
-shared-slice-read-put-entry : tie.Need-shared-slice-read-put-entry Inv-loop μ-loop
-shared-slice-read-put-entry c = search needs
-
-put-entry-requires : tie.Need-put-entry-requires Inv-loop μ-loop
-put-entry-requires c κs = search needs
-
-add-k : tie.Need-add-k Inv-loop μ-loop
-add-k c = search needs
-
-loop-less : tie.Need-loop-less Inv-loop μ-loop
-loop-less c = search needs
 
 loop-again : tie.Need-loop-again Inv-loop μ-loop
 loop-again c =
@@ -140,9 +83,6 @@ loop-again c =
           ∙ sym (bytes-next f (a .n) e (l .entries) (l .k) h) ∙ l .inv .4,
     )
 
-clear-requires-2 : tie.Need-clear-requires-2 Inv-loop μ-loop
-clear-requires-2 c κs = search needs
-
 same-length-2 : tie.Need-same-length-2 Inv-loop μ-loop
 same-length-2 c = c .before .before .clear2 .kept .0 ∙ c .before .before .before .before .before .before .loop .inv .0
 
@@ -157,12 +97,6 @@ returns-2 c =
       no-room f (a .n) e (length (now (a .entries))) (l .inv .2 ∙ all-end f (a .n) (lineFits e) (l .k) (c .before .before .before .before .before .loop-test .left)) (omega (arith, c .before .before .before .before .if1 .taken, l .inv .0)),
       c .before .before .clear2 .ensures ∙ ap (λ (m : ℕ). replicate {A = ℕ} m 0) (l .inv .0),
     )
-
-cast-t36 : tie.Need-cast-t36 Inv-loop μ-loop
-cast-t36 c = search needs
-
-tracking-error-requires : tie.Need-tracking-error-requires Inv-loop μ-loop
-tracking-error-requires c κs = search needs
 
 same-length-3 : tie.Need-same-length-3 Inv-loop μ-loop
 same-length-3 c = c .before .before .before .loop .inv .0
@@ -187,36 +121,8 @@ returns-3 c =
 pub write-entries-spec : {M : Type 1} → statement M
 write-entries-spec =
     tie.close
-    (tie.spec
-    Inv-loop
-    μ-loop
-    loop-holds
-    mul-signed
-    shared-slice-read-signed
-    signed-requires
-    mul-from-bits
-    shared-slice-read-from-bits
-    from-bits-requires
-    mul-signed-2
-    shared-slice-read-signed-2
-    signed-requires-2
-    entry-of-requires
-    enum-known-made
-    enum-told
-    clear-requires
-    same-length
-    returns
-    mul-put-entry
-    mul-put-entry-2
-    shared-slice-read-put-entry
-    put-entry-requires
-    add-k
-    loop-less
-    loop-again
-    clear-requires-2
-    same-length-2
-    returns-2
-    cast-t36
-    tracking-error-requires
-    same-length-3
-    returns-3)
+    (tie.spec Inv-loop μ-loop loop-holds (λ c. search needs) (λ c. search needs) (λ c κs. search needs) (λ c. search needs) (λ c. search needs)
+    (λ c κs. search needs) (λ c. search needs) (λ c. search needs) (λ c κs. search needs) (λ c κs. search needs) (λ c. search needs)
+    (λ c. search needs) (λ c κs. search needs) same-length returns (λ c. search needs) (λ c. search needs) (λ c. search needs) (λ c κs. search needs)
+    (λ c. search needs) (λ c. search needs) loop-again (λ c κs. search needs) same-length-2 returns-2 (λ c. search needs) (λ c κs. search needs)
+    same-length-3 returns-3)

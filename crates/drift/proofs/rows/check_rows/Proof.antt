@@ -20,15 +20,9 @@ Inv-loop d width n i₀ i = every wideFieldOk width n d ≡ every wideFieldOk wi
 abbrev μ-loop : tie.MeasureT-loop
 μ-loop d width n i₀ i = n - i
 
-div-n : tie.Need-div-n Inv-loop μ-loop
-div-n c = search needs
-
 returns : tie.Need-returns Inv-loop μ-loop
 unfolding rowsLayout
 returns c = rw (lt-ltb 1024 (length (now (c .before .before .args .d)) / c .before .before .args .width) (c .if1 .taken))
-
-rem-if2 : tie.Need-rem-if2 Inv-loop μ-loop
-rem-if2 c = search needs
 
 returns-2 : tie.Need-returns-2 Inv-loop μ-loop
 unfolding rowsLayout
@@ -44,12 +38,6 @@ mul-from c =
     let w : a .width ≤ 32 = omega arith in
     omega (arith, mul-le-mul w l)
 
-from-requires : tie.Need-from-requires Inv-loop μ-loop
-from-requires c κs = search needs
-
-wide-field-ok-requires : tie.Need-wide-field-ok-requires Inv-loop μ-loop
-wide-field-ok-requires c κs = search needs
-
 returns-3 : tie.Need-returns-3 Inv-loop μ-loop
 unfolding rowsLayout
 returns-3 c =
@@ -58,12 +46,6 @@ returns-3 c =
     let r = c .before .wide-field-ok in
     let f = sym (r .ensures ∙ ap wideFieldOk (c .before .before .from .ensures)) ∙ not-true (r .result) (c .if3 .taken) in
     rw (le-ltb 1024 (length (now (a .d)) / a .width) (c .before .before .before .before .before .before .if1 .left), table-even wideFieldOk (a .width) (now (a .d)) (c .before .before .before .before .before .if2 .left), l .inv, every-stops wideFieldOk (a .width) _ (now (a .d)) (l .i) (c .before .before .before .loop-test .taken) f)
-
-add-i : tie.Need-add-i Inv-loop μ-loop
-add-i c = search needs
-
-loop-less : tie.Need-loop-less Inv-loop μ-loop
-loop-less c = search needs
 
 loop-again : tie.Need-loop-again Inv-loop μ-loop
 loop-again c =
@@ -83,19 +65,5 @@ returns-4 c =
 pub check-rows-spec : {M : Type 1} → statement M
 check-rows-spec =
     tie.close
-    (tie.spec
-    Inv-loop
-    μ-loop
-    div-n
-    returns
-    rem-if2
-    returns-2
-    loop-holds
-    mul-from
-    from-requires
-    wide-field-ok-requires
-    returns-3
-    add-i
-    loop-less
-    loop-again
-    returns-4)
+    (tie.spec Inv-loop μ-loop (λ c. search needs) returns (λ c. search needs) returns-2 loop-holds mul-from (λ c κs. search needs)
+    (λ c κs. search needs) returns-3 (λ c. search needs) (λ c. search needs) loop-again returns-4)

@@ -26,21 +26,6 @@ abbrev μ-loop : tie.MeasureT-loop
 loop-holds : tie.Need-loop-holds Inv-loop μ-loop
 loop-holds c = weights-all weightOk (c .before .args .count) (now (c .before .args .targets))
 
-mul-u64-at : tie.Need-mul-u64-at Inv-loop μ-loop
-mul-u64-at c = search needs
-
-add-u64-at : tie.Need-add-u64-at Inv-loop μ-loop
-add-u64-at c = search needs
-
-u64-at-requires : tie.Need-u64-at-requires Inv-loop μ-loop
-u64-at-requires c κs = search needs
-
-from-bits-requires : tie.Need-from-bits-requires Inv-loop μ-loop
-from-bits-requires c κs = search needs
-
-weight-ok-requires : tie.Need-weight-ok-requires Inv-loop μ-loop
-weight-ok-requires c κs = search needs
-
 returns : tie.Need-returns Inv-loop μ-loop
 returns c =
     let a = c .before .before .before .before .before .before .before .args in
@@ -48,12 +33,6 @@ returns c =
     let r = c .before .weight-ok in
     let f : weightOk (ofBits binary64 (le 8 (drop (24 * l .i + 16) (now (a .targets))))) ≡ false = rw (← c .before .before .before .u64-at .ensures, ← c .before .before .from-bits .ensures) (sym (r .ensures) ∙ not-true (r .result) (c .if1 .taken)) in
     sym (l .inv ∙ weights-stop weightOk (a .count) (now (a .targets)) (l .i) (c .before .before .before .before .loop-test .taken) f)
-
-add-i : tie.Need-add-i Inv-loop μ-loop
-add-i c = search needs
-
-loop-less : tie.Need-loop-less Inv-loop μ-loop
-loop-less c = search needs
 
 loop-again : tie.Need-loop-again Inv-loop μ-loop
 loop-again c =
@@ -72,17 +51,5 @@ returns-2 c =
 pub weights-ok-spec : {M : Type 1} → statement M
 weights-ok-spec =
     tie.close
-    (tie.spec
-    Inv-loop
-    μ-loop
-    loop-holds
-    mul-u64-at
-    add-u64-at
-    u64-at-requires
-    from-bits-requires
-    weight-ok-requires
-    returns
-    add-i
-    loop-less
-    loop-again
-    returns-2)
+    (tie.spec Inv-loop μ-loop loop-holds (λ c. search needs) (λ c. search needs) (λ c κs. search needs) (λ c κs. search needs) (λ c κs. search needs)
+    returns (λ c. search needs) (λ c. search needs) loop-again returns-2)

@@ -79,6 +79,4 @@ returns-4 c =
     is-over (s .args .a -ℤ s .args .b) (below (s .args .a) (s .args .b) false (s .fits .a) (s .fits .b) (c .before .if1 .left) (c .if3 .left))
 
 pub minus-spec : {M : Type 1} → statement M
-minus-spec =
-    tie.close
-    (tie.spec add-if2 sub-t8 add-if3 sub-t12 returns returns-2 returns-3 returns-4)
+minus-spec = tie.close (tie.spec add-if2 sub-t8 add-if3 sub-t12 returns returns-2 returns-3 returns-4)

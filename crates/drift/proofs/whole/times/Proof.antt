@@ -77,6 +77,4 @@ returns-4 c =
     is-over (s .args .a *ℤ s .args .b) (below (s .args .a) (s .args .b) false (s .fits .a) (s .fits .b) (s .pre) (c .before .if1 .left) (c .if3 .left))
 
 pub times-spec : {M : Type 1} → statement M
-times-spec =
-    tie.close
-    (tie.spec div-if2 mul-t8 div-if3 mul-t12 returns returns-2 returns-3 returns-4)
+times-spec = tie.close (tie.spec div-if2 mul-t8 div-if3 mul-t12 returns returns-2 returns-3 returns-4)

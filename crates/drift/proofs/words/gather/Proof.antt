@@ -30,18 +30,6 @@ loop-holds c =
     let s = c .before .before in
     (omega arith, omega arith, refl, s .pre .1 .1, rw (← rest-all rowOf (s .args .width) (s .args .count) (now (s .args .list))))
 
-key-in-requires : tie.Need-key-in-requires Inv-loop μ-loop
-key-in-requires c κs = search needs
-
-insert-requires : tie.Need-insert-requires Inv-loop μ-loop
-insert-requires c κs = search needs
-
-add-i : tie.Need-add-i Inv-loop μ-loop
-add-i c = search needs
-
-loop-less : tie.Need-loop-less Inv-loop μ-loop
-loop-less c = search needs
-
 loop-again : tie.Need-loop-again Inv-loop μ-loop
 loop-again c =
     let m = c .before .before in
@@ -55,9 +43,6 @@ loop-again c =
       subst Rising (sym (m .insert .ensures .1)) (rising-inserted (x .result) (take (l .taken) (l .keys)) (l .inv .3)),
       gathered-step (a .width) (a .count) (now (a .list)) (l .i) (t .loop-test .taken) (x .result) (take (l .taken) (l .keys)) _ (x .ensures) (m .insert .ensures .1) ∙ l .inv .4,
     )
-
-same-length : tie.Need-same-length Inv-loop μ-loop
-same-length c = search needs
 
 returns : tie.Need-returns Inv-loop μ-loop
 unfolding sortedWith
@@ -74,14 +59,5 @@ returns c =
 pub gather-spec : {M : Type 1} → statement M
 gather-spec =
     tie.close
-    (tie.spec
-    Inv-loop
-    μ-loop
-    loop-holds
-    key-in-requires
-    insert-requires
-    add-i
-    loop-less
-    loop-again
-    same-length
-    returns)
+    (tie.spec Inv-loop μ-loop loop-holds (λ c κs. search needs) (λ c κs. search needs) (λ c. search needs) (λ c. search needs) loop-again
+    (λ c. search needs) returns)

@@ -10,35 +10,11 @@ use denote.Ref.{now}
 use lib.ListN.{take, set}
 use Rattle.drift.proofs.Inserted.{insert-old, insert-new}
 
-place-requires : tie.Need-place-requires
-place-requires c κs = search needs
-
-has-requires : tie.Need-has-requires
-has-requires c κs = search needs
-
-same-length : tie.Need-same-length
-same-length c = search needs
-
 returns : tie.Need-returns
 returns c =
     let p = c .before .before .before in
     let a = p .before .before .before .args in
     (omega arith, sym (insert-old (now (a .keys)) (a .n) (a .x) (p .place .result) (omega arith) (p .place .ensures) (sym (c .before .has .ensures) ∙ c .if1 .taken)))
-
-open-requires : tie.Need-open-requires
-open-requires c κs = search needs
-
-mul-keys : tie.Need-mul-keys
-mul-keys c = search needs
-
-slice-write-keys : tie.Need-slice-write-keys
-slice-write-keys c = search needs
-
-add-result : tie.Need-add-result
-add-result c = search needs
-
-same-length-2 : tie.Need-same-length-2
-same-length-2 c = search needs
 
 returns-2 : tie.Need-returns-2
 returns-2 c =
@@ -50,14 +26,5 @@ returns-2 c =
 pub insert-spec : {M : Type 1} → statement M
 insert-spec =
     tie.close
-    (tie.spec
-    place-requires
-    has-requires
-    same-length
-    returns
-    open-requires
-    mul-keys
-    slice-write-keys
-    add-result
-    same-length-2
-    returns-2)
+    (tie.spec (λ c κs. search needs) (λ c κs. search needs) (λ c. search needs) returns (λ c κs. search needs) (λ c. search needs) (λ c. search needs)
+    (λ c. search needs) (λ c. search needs) returns-2)

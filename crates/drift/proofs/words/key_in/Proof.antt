@@ -18,11 +18,8 @@ whole-u64-at-requires c κs =
     let a = c .before .args in
     omega (arith, row-there (now (a .list)) (a .width) (a .count) (a .i) (c .before .pre .0) (c .before .pre .1))
 
-key-of-requires : tie.Need-key-of-requires
-key-of-requires c κs = search needs
-
 returns : tie.Need-returns
 returns c = c .key-of .ensures ∙ ap key (c .before .whole-u64-at .ensures)
 
 pub key-in-spec : {M : Type 1} → statement M
-key-in-spec = tie.close (tie.spec mul-whole-u64-at whole-u64-at-requires key-of-requires returns)
+key-in-spec = tie.close (tie.spec mul-whole-u64-at whole-u64-at-requires (λ c κs. search needs) returns)

@@ -6,14 +6,8 @@ use Prim.Native.Nat.{_/_}
 use native.Mathlib.Omega.{arith}
 use Rattle.drift.proofs.Keys.{swap-lt, swap-halves}
 
-four-requires : tie.Need-four-requires
-four-requires c κs = search needs
-
 mul-result : tie.Need-mul-result
 mul-result c = omega (arith, swap-lt 4 (c .before .args .x))
-
-four-requires-2 : tie.Need-four-requires-2
-four-requires-2 c κs = search needs
 
 add-result : tie.Need-add-result
 add-result c = omega (arith, swap-lt 4 (c .before .before .args .x), swap-lt 4 (c .before .before .args .x / 0x1_0000_0000))
@@ -22,4 +16,6 @@ returns : tie.Need-returns
 returns c = rw (c .four2 .ensures, c .before .four .ensures, swap-halves (c .before .before .args .x))
 
 pub key-of-spec : {M : Type 1} → statement M
-key-of-spec = tie.close (tie.spec four-requires mul-result four-requires-2 add-result returns)
+key-of-spec =
+    tie.close
+    (tie.spec (λ c κs. search needs) mul-result (λ c κs. search needs) add-result returns)

@@ -25,21 +25,6 @@ loop-holds c =
     let a = c .before .before .before .args in
     (refl, λ k h. rw (← rest-all rowOf (a .width) (a .count) (now (a .list))))
 
-key-in-requires : tie.Need-key-in-requires Inv-loop μ-loop
-key-in-requires c κs = search needs
-
-bits-in-requires : tie.Need-bits-in-requires Inv-loop μ-loop
-bits-in-requires c κs = search needs
-
-note-requires : tie.Need-note-requires Inv-loop μ-loop
-note-requires c κs = search needs
-
-add-i : tie.Need-add-i Inv-loop μ-loop
-add-i c = search needs
-
-loop-less : tie.Need-loop-less Inv-loop μ-loop
-loop-less c = search needs
-
 loop-again : tie.Need-loop-again Inv-loop μ-loop
 loop-again c =
     let m = c .before .before in
@@ -52,9 +37,6 @@ loop-again c =
       λ k h. noted-step (a .width) (a .count) (now (a .list)) (l .i) (t .loop-test .taken) (now (a .keys)) (a .n) (x .key-in .result) (b .bits-in .result) (l .values) _ (x .key-in .ensures) (b .bits-in .ensures) (m .note .ensures) k h ∙ l .inv .1 k h,
     )
 
-same-length : tie.Need-same-length Inv-loop μ-loop
-same-length c = search needs
-
 returns : tie.Need-returns Inv-loop μ-loop
 unfolding lastBits
 returns c =
@@ -65,15 +47,5 @@ returns c =
 pub last-values-spec : {M : Type 1} → statement M
 last-values-spec =
     tie.close
-    (tie.spec
-    Inv-loop
-    μ-loop
-    loop-holds
-    key-in-requires
-    bits-in-requires
-    note-requires
-    add-i
-    loop-less
-    loop-again
-    same-length
-    returns)
+    (tie.spec Inv-loop μ-loop loop-holds (λ c κs. search needs) (λ c κs. search needs) (λ c κs. search needs) (λ c. search needs) (λ c. search needs)
+    loop-again (λ c. search needs) returns)

@@ -11,8 +11,5 @@ cast-result c = omega (arith, leading-le 64 (c .args .x))
 sub-result : tie.Need-sub-result
 sub-result c = omega (arith, leading-le 64 (c .args .x))
 
-returns : tie.Need-returns
-returns c = search needs
-
 pub len-of-spec : {M : Type 1} → statement M
-len-of-spec = tie.close (tie.spec cast-result sub-result returns)
+len-of-spec = tie.close (tie.spec cast-result sub-result (λ c. search needs))

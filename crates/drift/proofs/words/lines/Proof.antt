@@ -102,18 +102,6 @@ last-values-requires-3 c κs =
     let s = begun (known k) in
     (listed 24 (now (s .args .prices)) (omega arith), (word-room k, (value-room k (now (s .args .costs)) (s .pre .1 .costs), k .gather2 .ensures .rising)))
 
-same-length : tie.Need-same-length
-same-length c = search needs
-
-same-length-2 : tie.Need-same-length-2
-same-length-2 c = search needs
-
-same-length-3 : tie.Need-same-length-3
-same-length-3 c = search needs
-
-same-length-4 : tie.Need-same-length-4
-same-length-4 c = search needs
-
 returns : tie.Need-returns
 returns c =
     let k = c .before .before .before .before .before .before .before .before .before .before .before .before .before .before .before .before .before in
@@ -148,14 +136,5 @@ returns c =
 pub lines-spec : {M : Type 1} → statement M
 lines-spec =
     tie.close
-    (tie.spec
-    gather-requires
-    gather-requires-2
-    last-values-requires
-    last-values-requires-2
-    last-values-requires-3
-    same-length
-    same-length-2
-    same-length-3
-    same-length-4
-    returns)
+    (tie.spec gather-requires gather-requires-2 last-values-requires last-values-requires-2 last-values-requires-3 (λ c. search needs)
+    (λ c. search needs) (λ c. search needs) (λ c. search needs) returns)

@@ -7,24 +7,12 @@ use native.Mathlib.Omega.{arith}
 use denote.Ref.{now}
 use Rattle.drift.proofs.Inserted.{there, note-found, note-absent}
 
-place-requires : tie.Need-place-requires
-place-requires c κs = search needs
-
-has-requires : tie.Need-has-requires
-has-requires c κs = search needs
-
-mul-values : tie.Need-mul-values
-mul-values c = search needs
-
 slice-write-values : tie.Need-slice-write-values
 slice-write-values c =
     let p = c .before .before in
     let s = p .before .before .before in
     let l = there (now (s .args .keys)) (s .args .n) (s .args .x) (p .place .result) (sym (c .before .has .ensures) ∙ c .if1 .taken) .0 in
     omega arith
-
-same-length : tie.Need-same-length
-same-length c = search needs
 
 returns : tie.Need-returns
 returns c =
@@ -43,11 +31,4 @@ returns-2 c =
 pub note-spec : {M : Type 1} → statement M
 note-spec =
     tie.close
-    (tie.spec
-    place-requires
-    has-requires
-    mul-values
-    slice-write-values
-    same-length
-    returns
-    returns-2)
+    (tie.spec (λ c κs. search needs) (λ c κs. search needs) (λ c. search needs) slice-write-values (λ c. search needs) returns returns-2)

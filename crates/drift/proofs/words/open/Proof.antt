@@ -5,27 +5,6 @@ use Rattle.drift.proofs.words.open.Tie as tie
 use denote.Ref.{now}
 use Rattle.drift.proofs.Opened.{open-part}
 
-mul-move-up : tie.Need-mul-move-up
-mul-move-up c = search needs
-
-sub-move-up : tie.Need-sub-move-up
-sub-move-up c = search needs
-
-part-move-up-start : tie.Need-part-move-up-start
-part-move-up-start c = search needs
-
-part-move-up-end : tie.Need-part-move-up-end
-part-move-up-end c = search needs
-
-sub-move-up-2 : tie.Need-sub-move-up-2
-sub-move-up-2 c = search needs
-
-move-up-requires : tie.Need-move-up-requires
-move-up-requires c κs = search needs
-
-same-length : tie.Need-same-length
-same-length c = search needs
-
 returns : tie.Need-returns
 returns c =
     let s = c .before .before .before .before .before in
@@ -34,12 +13,5 @@ returns c =
 pub open-spec : {M : Type 1} → statement M
 open-spec =
     tie.close
-    (tie.spec
-    mul-move-up
-    sub-move-up
-    part-move-up-start
-    part-move-up-end
-    sub-move-up-2
-    move-up-requires
-    same-length
-    returns)
+    (tie.spec (λ c. search needs) (λ c. search needs) (λ c. search needs) (λ c. search needs) (λ c. search needs) (λ c κs. search needs)
+    (λ c. search needs) returns)

@@ -17,24 +17,6 @@ abbrev μ-loop : tie.MeasureT-loop
 loop-holds : tie.Need-loop-holds Inv-loop μ-loop
 loop-holds c = record { least = omega arith; most = omega arith; below = λ i l. absurd (omega arith); above = λ i l m. absurd (omega arith) }
 
-sub-half : tie.Need-sub-half Inv-loop μ-loop
-sub-half c = search needs
-
-add-step : tie.Need-add-step Inv-loop μ-loop
-add-step c = search needs
-
-sub-step : tie.Need-sub-step Inv-loop μ-loop
-sub-step c = search needs
-
-mul-step : tie.Need-mul-step Inv-loop μ-loop
-mul-step c = search needs
-
-shared-slice-read-step : tie.Need-shared-slice-read-step Inv-loop μ-loop
-shared-slice-read-step c = search needs
-
-step-requires : tie.Need-step-requires Inv-loop μ-loop
-step-requires c κs = search needs
-
 half-left : (c : tie.After-step Inv-loop μ-loop)
     → let l = c .before .before .before .loop in
     let a = c .before .before .before .before .before .args in
@@ -48,9 +30,6 @@ half-left c =
 add-low : tie.Need-add-low Inv-loop μ-loop
 add-low c = record { fits = omega (arith, half-left c .least, half-left c .most) }
 
-loop-less : tie.Need-loop-less Inv-loop μ-loop
-loop-less c = search needs
-
 loop-again : tie.Need-loop-again Inv-loop μ-loop
 loop-again c = half-left c
 
@@ -62,17 +41,5 @@ returns c =
 pub place-spec : {M : Type 1} → statement M
 place-spec =
     tie.close
-    (tie.spec
-    Inv-loop
-    μ-loop
-    loop-holds
-    sub-half
-    add-step
-    sub-step
-    mul-step
-    shared-slice-read-step
-    step-requires
-    add-low
-    loop-less
-    loop-again
-    returns)
+    (tie.spec Inv-loop μ-loop loop-holds (λ c. search needs) (λ c. search needs) (λ c. search needs) (λ c. search needs) (λ c. search needs)
+    (λ c κs. search needs) add-low (λ c. search needs) loop-again returns)

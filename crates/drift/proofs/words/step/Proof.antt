@@ -12,9 +12,6 @@ shifted : (half : ℕ) (below : Bool) → half < 2 ^ 63 → (boolByte below < 64
 shifted half true h = (omega arith, omega arith)
 shifted half false h = (omega arith, omega arith)
 
-cast-result : tie.Need-cast-result
-cast-result c = search needs
-
 shl-result : tie.Need-shl-result
 shl-result c = shifted (c .args .half) (c .args .below) (c .pre) .0
 
@@ -25,4 +22,4 @@ returns : tie.Need-returns
 returns c = omega (arith, shifted (c .args .half) (c .args .below) (c .pre) .1)
 
 pub step-spec : {M : Type 1} → statement M
-step-spec = tie.close (tie.spec cast-result shl-result sub-result returns)
+step-spec = tie.close (tie.spec (λ c. search needs) shl-result sub-result returns)

@@ -4,14 +4,8 @@ use mathlib.Core.Path.{_∙_}
 use Rattle.exports.proofs.book_entries.desk_check_book.Statement.{statement}
 use Rattle.exports.proofs.book_entries.desk_check_book.Tie as tie
 
-check-requires : tie.Need-check-requires
-check-requires c κs = search needs
-
-layout-number-requires : tie.Need-layout-number-requires
-layout-number-requires c κs = search needs
-
 returns : tie.Need-returns
 returns c = c .layout-number .ensures ∙ rw (c .before .check .ensures)
 
 pub desk-check-book-spec : {M : Type 1} → statement M
-desk-check-book-spec = tie.close (tie.spec check-requires layout-number-requires returns)
+desk-check-book-spec = tie.close (tie.spec (λ c κs. search needs) (λ c κs. search needs) returns)

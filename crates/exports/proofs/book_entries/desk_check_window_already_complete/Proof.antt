@@ -8,18 +8,6 @@ use Rattle.exports.proofs.book_entries.desk_check_window_already_comple
 }
 use Rattle.exports.proofs.book_entries.desk_check_window_already_complete.Tie as tie
 
-check-window-already-complete-requires : tie.Need-check-window-already-complete-requires
-check-window-already-complete-requires c κs = search needs
-
-window-numbers-requires : tie.Need-window-numbers-requires
-window-numbers-requires c κs = search needs
-
-give-requires : tie.Need-give-requires
-give-requires c κs = search needs
-
-same-length : tie.Need-same-length
-same-length c = search needs
-
 returns : tie.Need-returns
 returns c =
     let g = c .before .before in
@@ -30,9 +18,4 @@ returns c =
 pub desk-check-window-already-complete-spec : {M : Type 1} → statement M
 desk-check-window-already-complete-spec =
     tie.close
-    (tie.spec
-    check-window-already-complete-requires
-    window-numbers-requires
-    give-requires
-    same-length
-    returns)
+    (tie.spec (λ c κs. search needs) (λ c κs. search needs) (λ c κs. search needs) (λ c. search needs) returns)

@@ -6,18 +6,6 @@ use Rattle.answers.proofs.Given.{of-same}
 use Rattle.exports.proofs.book_entries.desk_max_checkpoint_sequence.Statement.{statement}
 use Rattle.exports.proofs.book_entries.desk_max_checkpoint_sequence.Tie as tie
 
-max-checkpoint-sequence-requires : tie.Need-max-checkpoint-sequence-requires
-max-checkpoint-sequence-requires c κs = search needs
-
-highest-numbers-requires : tie.Need-highest-numbers-requires
-highest-numbers-requires c κs = search needs
-
-give-requires : tie.Need-give-requires
-give-requires c κs = search needs
-
-same-length : tie.Need-same-length
-same-length c = search needs
-
 returns : tie.Need-returns
 returns c =
     let g = c .before .before in
@@ -28,9 +16,4 @@ returns c =
 pub desk-max-checkpoint-sequence-spec : {M : Type 1} → statement M
 desk-max-checkpoint-sequence-spec =
     tie.close
-    (tie.spec
-    max-checkpoint-sequence-requires
-    highest-numbers-requires
-    give-requires
-    same-length
-    returns)
+    (tie.spec (λ c κs. search needs) (λ c κs. search needs) (λ c κs. search needs) (λ c. search needs) returns)

@@ -6,18 +6,6 @@ use mathlib.Core.Path.{_∙_}
 use lib.ListN.{length}
 use Rattle.answers.proofs.Given.{of-same}
 
-held-value-requires : tie.Need-held-value-requires
-held-value-requires c κs = search needs
-
-held-numbers-requires : tie.Need-held-numbers-requires
-held-numbers-requires c κs = search needs
-
-give-requires : tie.Need-give-requires
-give-requires c κs = search needs
-
-same-length : tie.Need-same-length
-same-length c = search needs
-
 returns : tie.Need-returns
 returns c =
     let give = c .before .before in
@@ -29,4 +17,4 @@ returns c =
 pub desk-held-value-spec : {M : Type 1} → statement M
 desk-held-value-spec =
     tie.close
-    (tie.spec held-value-requires held-numbers-requires give-requires same-length returns)
+    (tie.spec (λ c κs. search needs) (λ c κs. search needs) (λ c κs. search needs) (λ c. search needs) returns)

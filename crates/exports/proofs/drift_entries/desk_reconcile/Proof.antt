@@ -11,21 +11,6 @@ use Rattle.answers.specs.Answer.{numbers}
 use Rattle.drift_answers.specs.DriftAnswer.{driftNumbers}
 use Rattle.answers.proofs.Given.{of-same, beside}
 
-reconcile-requires : tie.Need-reconcile-requires
-reconcile-requires c κs = search needs
-
-drift-numbers-requires : tie.Need-drift-numbers-requires
-drift-numbers-requires c κs = search needs
-
-give-beside-requires : tie.Need-give-beside-requires
-give-beside-requires c κs = search needs
-
-same-length : tie.Need-same-length
-same-length c = search needs
-
-same-length-2 : tie.Need-same-length-2
-same-length-2 c = search needs
-
 returns : tie.Need-returns
 returns c =
     let give = c .before .before .before .before in
@@ -42,10 +27,4 @@ returns c =
 pub desk-reconcile-spec : {M : Type 1} → statement M
 desk-reconcile-spec =
     tie.close
-    (tie.spec
-    reconcile-requires
-    drift-numbers-requires
-    give-beside-requires
-    same-length
-    same-length-2
-    returns)
+    (tie.spec (λ c κs. search needs) (λ c κs. search needs) (λ c κs. search needs) (λ c. search needs) (λ c. search needs) returns)

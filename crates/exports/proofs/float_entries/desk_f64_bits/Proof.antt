@@ -5,14 +5,8 @@ use lib.Ieee.{binary64, toBits}
 use Rattle.exports.proofs.float_entries.desk_f64_bits.Statement.{statement}
 use Rattle.exports.proofs.float_entries.desk_f64_bits.Tie as tie
 
-from-bits-requires : tie.Need-from-bits-requires
-from-bits-requires c κs = search needs
-
-to-bits-requires : tie.Need-to-bits-requires
-to-bits-requires c κs = search needs
-
 returns : tie.Need-returns
 returns c = c .to-bits .ensures ∙ ap (toBits binary64) (c .before .from-bits .ensures)
 
 pub desk-f64-bits-spec : {M : Type 1} → statement M
-desk-f64-bits-spec = tie.close (tie.spec from-bits-requires to-bits-requires returns)
+desk-f64-bits-spec = tie.close (tie.spec (λ c κs. search needs) (λ c κs. search needs) returns)

@@ -5,14 +5,8 @@ use Rattle.float.specs.Bits.{isFinite}
 use Rattle.exports.proofs.float_entries.desk_is_finite.Statement.{statement}
 use Rattle.exports.proofs.float_entries.desk_is_finite.Tie as tie
 
-from-bits-requires : tie.Need-from-bits-requires
-from-bits-requires c κs = search needs
-
-is-finite-requires : tie.Need-is-finite-requires
-is-finite-requires c κs = search needs
-
 returns : tie.Need-returns
 returns c = c .is-finite .ensures ∙ ap isFinite (c .before .from-bits .ensures)
 
 pub desk-is-finite-spec : {M : Type 1} → statement M
-desk-is-finite-spec = tie.close (tie.spec from-bits-requires is-finite-requires returns)
+desk-is-finite-spec = tie.close (tie.spec (λ c κs. search needs) (λ c κs. search needs) returns)

@@ -7,14 +7,10 @@ use mir.ValLaws.{toZ-ofZ}
 use Rattle.exports.proofs.float_entries.desk_nearest_i64.Statement.{statement}
 use Rattle.exports.proofs.float_entries.desk_nearest_i64.Tie as tie
 
-nearest-i64-requires : tie.Need-nearest-i64-requires
-nearest-i64-requires c κs = search needs
-
-to-bits-requires : tie.Need-to-bits-requires
-to-bits-requires c κs = search needs
-
 returns : tie.Need-returns
 returns c = c .to-bits .ensures ∙ ap (toBits binary64) (c .before .nearest-i64 .ensures ∙ ap (ofInt binary64) (toZ-ofZ w64 (c .before .before .args .n) (c .before .before .fits .n)))
 
 pub desk-nearest-i64-spec : {M : Type 1} → statement M
-desk-nearest-i64-spec = tie.close (tie.spec nearest-i64-requires to-bits-requires returns)
+desk-nearest-i64-spec =
+    tie.close
+    (tie.spec (λ c κs. search needs) (λ c κs. search needs) returns)

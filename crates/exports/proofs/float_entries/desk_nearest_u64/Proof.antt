@@ -5,14 +5,10 @@ use lib.Ieee.{binary64, toBits}
 use Rattle.exports.proofs.float_entries.desk_nearest_u64.Statement.{statement}
 use Rattle.exports.proofs.float_entries.desk_nearest_u64.Tie as tie
 
-nearest-u64-requires : tie.Need-nearest-u64-requires
-nearest-u64-requires c κs = search needs
-
-to-bits-requires : tie.Need-to-bits-requires
-to-bits-requires c κs = search needs
-
 returns : tie.Need-returns
 returns c = c .to-bits .ensures ∙ ap (toBits binary64) (c .before .nearest-u64 .ensures)
 
 pub desk-nearest-u64-spec : {M : Type 1} → statement M
-desk-nearest-u64-spec = tie.close (tie.spec nearest-u64-requires to-bits-requires returns)
+desk-nearest-u64-spec =
+    tie.close
+    (tie.spec (λ c κs. search needs) (λ c κs. search needs) returns)

@@ -7,14 +7,10 @@ use mir.ValLaws.{toZ-ofZ}
 use Rattle.exports.proofs.float_entries.desk_saturating_i64.Statement.{statement}
 use Rattle.exports.proofs.float_entries.desk_saturating_i64.Tie as tie
 
-from-bits-requires : tie.Need-from-bits-requires
-from-bits-requires c κs = search needs
-
-saturating-i64-requires : tie.Need-saturating-i64-requires
-saturating-i64-requires c κs = search needs
-
 returns : tie.Need-returns
 returns c = toZ-ofZ w64 _ (record { sfits = c .saturating-i64 .ok }) ∙ c .saturating-i64 .ensures ∙ ap (toSigned 63) (c .before .from-bits .ensures)
 
 pub desk-saturating-i64-spec : {M : Type 1} → statement M
-desk-saturating-i64-spec = tie.close (tie.spec from-bits-requires saturating-i64-requires returns)
+desk-saturating-i64-spec =
+    tie.close
+    (tie.spec (λ c κs. search needs) (λ c κs. search needs) returns)

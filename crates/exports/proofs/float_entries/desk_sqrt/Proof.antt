@@ -6,17 +6,10 @@ use Rattle.float.specs.Root.{sqrt}
 use Rattle.exports.proofs.float_entries.desk_sqrt.Statement.{statement}
 use Rattle.exports.proofs.float_entries.desk_sqrt.Tie as tie
 
-from-bits-requires : tie.Need-from-bits-requires
-from-bits-requires c κs = search needs
-
-sqrt-requires : tie.Need-sqrt-requires
-sqrt-requires c κs = search needs
-
-to-bits-requires : tie.Need-to-bits-requires
-to-bits-requires c κs = search needs
-
 returns : tie.Need-returns
 returns c = c .to-bits .ensures ∙ ap (toBits binary64) (c .before .sqrt .ensures ∙ ap (sqrt binary64) (c .before .before .from-bits .ensures))
 
 pub desk-sqrt-spec : {M : Type 1} → statement M
-desk-sqrt-spec = tie.close (tie.spec from-bits-requires sqrt-requires to-bits-requires returns)
+desk-sqrt-spec =
+    tie.close
+    (tie.spec (λ c κs. search needs) (λ c κs. search needs) (λ c κs. search needs) returns)

@@ -12,24 +12,6 @@ use Rattle.answers.specs.Answer.{roomNumber, unlessShort}
 use Rattle.recovery_answers.specs.RecoveryAnswer.{recoveryBytes}
 use Rattle.answers.proofs.Given.{beside}
 
-reconstruct-state-requires : tie.Need-reconstruct-state-requires
-reconstruct-state-requires c κs = search needs
-
-clear-both-if-short-requires : tie.Need-clear-both-if-short-requires
-clear-both-if-short-requires c κs = search needs
-
-give-recovery-requires : tie.Need-give-recovery-requires
-give-recovery-requires c κs = search needs
-
-same-length : tie.Need-same-length
-same-length c = search needs
-
-same-length-2 : tie.Need-same-length-2
-same-length-2 c = search needs
-
-same-length-3 : tie.Need-same-length-3
-same-length-3 c = search needs
-
 returns : tie.Need-returns
 returns c =
     let give = c .before .before in
@@ -54,11 +36,4 @@ returns c =
 pub desk-reconstruct-state-spec : {M : Type 1} → statement M
 desk-reconstruct-state-spec =
     tie.close
-    (tie.spec
-    reconstruct-state-requires
-    clear-both-if-short-requires
-    give-recovery-requires
-    same-length
-    same-length-2
-    same-length-3
-    returns)
+    (tie.spec (λ c κs. search needs) (λ c κs. search needs) (λ c κs. search needs) (λ c. search needs) (λ c. search needs) (λ c. search needs) returns)

@@ -5,18 +5,6 @@ use Rattle.exports.proofs.recovery_entries.desk_step.Tie as tie
 use lib.ListN.{length}
 use Rattle.answers.proofs.Given.{of-same}
 
-lent-step-requires : tie.Need-lent-step-requires
-lent-step-requires c κs = search needs
-
-give-requires : tie.Need-give-requires
-give-requires c κs = search needs
-
-same-length : tie.Need-same-length
-same-length c = search needs
-
-same-length-2 : tie.Need-same-length-2
-same-length-2 c = search needs
-
 returns : tie.Need-returns
 returns c =
     let give = c .before .before in
@@ -28,4 +16,5 @@ returns c =
 
 pub desk-step-spec : {M : Type 1} → statement M
 desk-step-spec =
-    tie.close (tie.spec lent-step-requires give-requires same-length same-length-2 returns)
+    tie.close
+    (tie.spec (λ c κs. search needs) (λ c κs. search needs) (λ c. search needs) (λ c. search needs) returns)

@@ -9,21 +9,6 @@ use Rattle.reply.specs.declared.Replied.{Replied}
 use Rattle.answers.specs.Answer.{numbers, numberAlone}
 use Rattle.answers.proofs.Given.{of-same, beside}
 
-reply-requires : tie.Need-reply-requires
-reply-requires c κs = search needs
-
-reply-numbers-requires : tie.Need-reply-numbers-requires
-reply-numbers-requires c κs = search needs
-
-give-beside-requires : tie.Need-give-beside-requires
-give-beside-requires c κs = search needs
-
-same-length : tie.Need-same-length
-same-length c = search needs
-
-same-length-2 : tie.Need-same-length-2
-same-length-2 c = search needs
-
 returns : tie.Need-returns
 returns c =
     let give = c .before .before .before .before in
@@ -40,10 +25,4 @@ returns c =
 pub desk-reply-spec : {M : Type 1} → statement M
 desk-reply-spec =
     tie.close
-    (tie.spec
-    reply-requires
-    reply-numbers-requires
-    give-beside-requires
-    same-length
-    same-length-2
-    returns)
+    (tie.spec (λ c κs. search needs) (λ c κs. search needs) (λ c κs. search needs) (λ c. search needs) (λ c. search needs) returns)

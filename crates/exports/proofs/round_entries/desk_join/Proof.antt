@@ -9,21 +9,6 @@ use Rattle.answers.specs.Answer.{numbers, numberAlone}
 use Rattle.round_answers.specs.RoundAnswer.{joiningNumbers}
 use Rattle.answers.proofs.Given.{of-same, beside}
 
-join-requires : tie.Need-join-requires
-join-requires c κs = search needs
-
-joining-numbers-requires : tie.Need-joining-numbers-requires
-joining-numbers-requires c κs = search needs
-
-give-beside-requires : tie.Need-give-beside-requires
-give-beside-requires c κs = search needs
-
-same-length : tie.Need-same-length
-same-length c = search needs
-
-same-length-2 : tie.Need-same-length-2
-same-length-2 c = search needs
-
 returns : tie.Need-returns
 returns c =
     let give = c .before .before .before .before in
@@ -39,10 +24,4 @@ returns c =
 pub desk-join-spec : {M : Type 1} → statement M
 desk-join-spec =
     tie.close
-    (tie.spec
-    join-requires
-    joining-numbers-requires
-    give-beside-requires
-    same-length
-    same-length-2
-    returns)
+    (tie.spec (λ c κs. search needs) (λ c κs. search needs) (λ c κs. search needs) (λ c. search needs) (λ c. search needs) returns)

@@ -12,21 +12,6 @@ use Rattle.answers.specs.Answer.{roomNumber, unlessShort}
 use Rattle.marks_answers.specs.IntentsAnswer.{reconcilingBytes}
 use Rattle.answers.proofs.Given.{beside}
 
-lent-reconciling-requires : tie.Need-lent-reconciling-requires
-lent-reconciling-requires c κs = search needs
-
-clear-if-short-requires : tie.Need-clear-if-short-requires
-clear-if-short-requires c κs = search needs
-
-give-reconciling-requires : tie.Need-give-reconciling-requires
-give-reconciling-requires c κs = search needs
-
-same-length : tie.Need-same-length
-same-length c = search needs
-
-same-length-2 : tie.Need-same-length-2
-same-length-2 c = search needs
-
 returns : tie.Need-returns
 returns c =
     let give = c .before .before in
@@ -47,10 +32,4 @@ returns c =
 pub desk-reconcile-incomplete-intents-spec : {M : Type 1} → statement M
 desk-reconcile-incomplete-intents-spec =
     tie.close
-    (tie.spec
-    lent-reconciling-requires
-    clear-if-short-requires
-    give-reconciling-requires
-    same-length
-    same-length-2
-    returns)
+    (tie.spec (λ c κs. search needs) (λ c κs. search needs) (λ c κs. search needs) (λ c. search needs) (λ c. search needs) returns)

@@ -11,36 +11,6 @@ use Rattle.answers.specs.Answer.{numbers, numberAlone}
 use Rattle.round_answers.specs.RoundAnswer.{roundedNumbers}
 use Rattle.answers.proofs.Given.{of-same, beside}
 
-round-requires : tie.Need-round-requires
-round-requires c κs = search needs
-
-rounded-numbers-requires : tie.Need-rounded-numbers-requires
-rounded-numbers-requires c κs = search needs
-
-clear-both-if-short-requires : tie.Need-clear-both-if-short-requires
-clear-both-if-short-requires c κs = search needs
-
-clear-if-short-requires : tie.Need-clear-if-short-requires
-clear-if-short-requires c κs = search needs
-
-give-beside-requires : tie.Need-give-beside-requires
-give-beside-requires c κs = search needs
-
-same-length : tie.Need-same-length
-same-length c = search needs
-
-same-length-2 : tie.Need-same-length-2
-same-length-2 c = search needs
-
-same-length-3 : tie.Need-same-length-3
-same-length-3 c = search needs
-
-same-length-4 : tie.Need-same-length-4
-same-length-4 c = search needs
-
-same-length-5 : tie.Need-same-length-5
-same-length-5 c = search needs
-
 returns : tie.Need-returns
 returns c =
     let give = c .before .before .before .before in
@@ -72,15 +42,5 @@ returns c =
 pub desk-round-spec : {M : Type 1} → statement M
 desk-round-spec =
     tie.close
-    (tie.spec
-    round-requires
-    rounded-numbers-requires
-    clear-both-if-short-requires
-    clear-if-short-requires
-    give-beside-requires
-    same-length
-    same-length-2
-    same-length-3
-    same-length-4
-    same-length-5
-    returns)
+    (tie.spec (λ c κs. search needs) (λ c κs. search needs) (λ c κs. search needs) (λ c κs. search needs) (λ c κs. search needs) (λ c. search needs)
+    (λ c. search needs) (λ c. search needs) (λ c. search needs) (λ c. search needs) returns)

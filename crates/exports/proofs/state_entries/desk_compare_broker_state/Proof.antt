@@ -5,18 +5,6 @@ use Rattle.exports.proofs.state_entries.desk_compare_broker_state.Tie a
 use lib.ListN.{length}
 use Rattle.answers.proofs.Given.{of-same, beside}
 
-lent-comparison-requires : tie.Need-lent-comparison-requires
-lent-comparison-requires c κs = search needs
-
-give-beside-requires : tie.Need-give-beside-requires
-give-beside-requires c κs = search needs
-
-same-length : tie.Need-same-length
-same-length c = search needs
-
-same-length-2 : tie.Need-same-length-2
-same-length-2 c = search needs
-
 returns : tie.Need-returns
 returns c =
     let give = c .before .before .before .before in
@@ -31,9 +19,4 @@ returns c =
 pub desk-compare-broker-state-spec : {M : Type 1} → statement M
 desk-compare-broker-state-spec =
     tie.close
-    (tie.spec
-    lent-comparison-requires
-    give-beside-requires
-    same-length
-    same-length-2
-    returns)
+    (tie.spec (λ c κs. search needs) (λ c κs. search needs) (λ c. search needs) (λ c. search needs) returns)

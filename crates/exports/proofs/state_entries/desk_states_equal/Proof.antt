@@ -5,15 +5,6 @@ use Rattle.exports.proofs.state_entries.desk_states_equal.Tie as tie
 use lib.ListN.{length}
 use Rattle.answers.proofs.Given.{of-same}
 
-lent-equality-requires : tie.Need-lent-equality-requires
-lent-equality-requires c κs = search needs
-
-give-requires : tie.Need-give-requires
-give-requires c κs = search needs
-
-same-length : tie.Need-same-length
-same-length c = search needs
-
 returns : tie.Need-returns
 returns c =
     let give = c .before .before in
@@ -23,4 +14,5 @@ returns c =
 
 pub desk-states-equal-spec : {M : Type 1} → statement M
 desk-states-equal-spec =
-    tie.close (tie.spec lent-equality-requires give-requires same-length returns)
+    tie.close
+    (tie.spec (λ c κs. search needs) (λ c κs. search needs) (λ c. search needs) returns)

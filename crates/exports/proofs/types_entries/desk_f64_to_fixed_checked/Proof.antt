@@ -8,21 +8,6 @@ use Rattle.answers.proofs.Answers.{carry}
 use Rattle.exports.proofs.types_entries.desk_f64_to_fixed_checked.Statement.{statement}
 use Rattle.exports.proofs.types_entries.desk_f64_to_fixed_checked.Tie as tie
 
-from-bits-requires : tie.Need-from-bits-requires
-from-bits-requires c κs = search needs
-
-from-bits-requires-2 : tie.Need-from-bits-requires-2
-from-bits-requires-2 c κs = search needs
-
-f64-to-fixed-checked-requires : tie.Need-f64-to-fixed-checked-requires
-f64-to-fixed-checked-requires c κs = search needs
-
-give-fixed-requires : tie.Need-give-fixed-requires
-give-fixed-requires c κs = search needs
-
-same-length : tie.Need-same-length
-same-length c = search needs
-
 returns : tie.Need-returns
 returns c =
     let a = c .before .before in
@@ -37,10 +22,4 @@ returns c =
 pub desk-f64-to-fixed-checked-spec : {M : Type 1} → statement M
 desk-f64-to-fixed-checked-spec =
     tie.close
-    (tie.spec
-    from-bits-requires
-    from-bits-requires-2
-    f64-to-fixed-checked-requires
-    give-fixed-requires
-    same-length
-    returns)
+    (tie.spec (λ c κs. search needs) (λ c κs. search needs) (λ c κs. search needs) (λ c κs. search needs) (λ c. search needs) returns)

@@ -7,11 +7,8 @@ use Rattle.types.specs.Order.{signExtended}
 use Rattle.exports.proofs.types_entries.desk_sign_extended.Statement.{statement}
 use Rattle.exports.proofs.types_entries.desk_sign_extended.Tie as tie
 
-sign-extended-requires : tie.Need-sign-extended-requires
-sign-extended-requires c κs = search needs
-
 returns : tie.Need-returns
 returns c = c .sign-extended .ensures ∙ ap signExtended (toZ-ofZ w32 (c .before .args .ibkr) (c .before .fits .ibkr))
 
 pub desk-sign-extended-spec : {M : Type 1} → statement M
-desk-sign-extended-spec = tie.close (tie.spec sign-extended-requires returns)
+desk-sign-extended-spec = tie.close (tie.spec (λ c κs. search needs) returns)

@@ -7,11 +7,8 @@ use Rattle.types.specs.Order.{truncated}
 use Rattle.exports.proofs.types_entries.desk_truncated_i32.Statement.{statement}
 use Rattle.exports.proofs.types_entries.desk_truncated_i32.Tie as tie
 
-truncated-i32-requires : tie.Need-truncated-i32-requires
-truncated-i32-requires c κs = search needs
-
 returns : tie.Need-returns
 returns c = toZ-ofZ w32 _ (record { sfits = c .truncated-i32 .ok }) ∙ c .truncated-i32 .ensures ∙ ap truncated (toZ-ofZ w64 (c .before .args .n) (c .before .fits .n))
 
 pub desk-truncated-i32-spec : {M : Type 1} → statement M
-desk-truncated-i32-spec = tie.close (tie.spec truncated-i32-requires returns)
+desk-truncated-i32-spec = tie.close (tie.spec (λ c κs. search needs) returns)

@@ -16,14 +16,8 @@ Inv-loop sheet n i₀ i = chosen (sheetOrders sheet) ≡ chosen (drop i (sheetOr
 abbrev μ-loop : tie.MeasureT-loop
 μ-loop sheet n i₀ i = n - i
 
-order-count-requires : tie.Need-order-count-requires Inv-loop μ-loop
-order-count-requires c κs = search needs
-
 loop-holds : tie.Need-loop-holds Inv-loop μ-loop
 loop-holds c = refl
-
-order-at-requires : tie.Need-order-at-requires Inv-loop μ-loop
-order-at-requires c κs = search needs
 
 returns : tie.Need-returns Inv-loop μ-loop
 returns c =
@@ -31,12 +25,6 @@ returns c =
     let s = now (c .before .before .before .before .before .before .before .before .args .sheet) in
     let h : l .i < orderCount s = rw (← c .before .before .before .before .before .before .order-count .ensures) (c .before .before .before .before .loop-test .taken) in
     sym (l .inv ∙ chosen-here s (l .i) (c .before .before .before .order-at .result) h (c .before .before .before .order-at .ensures) (c .before .if1 .taken))
-
-add-i : tie.Need-add-i Inv-loop μ-loop
-add-i c = search needs
-
-loop-less : tie.Need-loop-less Inv-loop μ-loop
-loop-less c = search needs
 
 loop-again : tie.Need-loop-again Inv-loop μ-loop
 loop-again c =
@@ -55,14 +43,5 @@ returns-2 c =
 pub choose-spec : {M : Type 1} → statement M
 choose-spec =
     tie.close
-    (tie.spec
-    Inv-loop
-    μ-loop
-    order-count-requires
-    loop-holds
-    order-at-requires
-    returns
-    add-i
-    loop-less
-    loop-again
+    (tie.spec Inv-loop μ-loop (λ c κs. search needs) loop-holds (λ c κs. search needs) returns (λ c. search needs) (λ c. search needs) loop-again
     returns-2)

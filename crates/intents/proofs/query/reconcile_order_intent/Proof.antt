@@ -6,11 +6,8 @@ use Rattle.intents.proofs.query.reconcile_order_intent.Tie as tie
 returns : tie.Need-returns
 returns c = rw (c .if1 .taken)
 
-ask-requires : tie.Need-ask-requires
-ask-requires c κs = search needs
-
 returns-2 : tie.Need-returns-2
 returns-2 c = rw (c .before .if1 .left) (c .ask .ensures)
 
 pub reconcile-order-intent-spec : {M : Type 1} → statement M
-reconcile-order-intent-spec = tie.close (tie.spec returns ask-requires returns-2)
+reconcile-order-intent-spec = tie.close (tie.spec returns (λ c κs. search needs) returns-2)

@@ -5,14 +5,8 @@ use Rattle.intents.proofs.query.turn_of.Tie as tie
 use mathlib.Core.Path.{sym, _∙_}
 use borrow.Author.Tests.{not-true, not-false}
 
-intent-at-requires : tie.Need-intent-at-requires
-intent-at-requires c κs = search needs
-
 returns : tie.Need-returns
 returns c = sym (c .before .intent-at .ensures) ∙ not-true (c .before .intent-at .result) (c .if1 .taken)
-
-reconcile-order-intent-requires : tie.Need-reconcile-order-intent-requires
-reconcile-order-intent-requires c κs = search needs
 
 returns-2 : tie.Need-returns-2
 returns-2 c = (sym (c .before .before .before .intent-at .ensures) ∙ not-false (c .before .before .before .intent-at .result) (c .before .before .if1 .left), c .before .reconcile-order-intent .ensures ∙ rw (c .if2 .taken))
@@ -23,4 +17,4 @@ returns-3 c = (sym (c .before .before .before .intent-at .ensures) ∙ not-false
 pub turn-of-spec : {M : Type 1} → statement M
 turn-of-spec =
     tie.close
-    (tie.spec intent-at-requires returns reconcile-order-intent-requires returns-2 returns-3)
+    (tie.spec (λ c κs. search needs) returns (λ c κs. search needs) returns-2 returns-3)

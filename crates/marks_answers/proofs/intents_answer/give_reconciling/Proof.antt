@@ -8,19 +8,10 @@ use lib.ListN.{replicate}
 use Rattle.marks_answers.specs.IntentsAnswer.{reconcilingBytes}
 use Rattle.answers.proofs.Given.{within-same}
 
-clear-requires : tie.Need-clear-requires
-clear-requires c κs = search needs
-
 put-reconciling-requires : tie.Need-put-reconciling-requires
 put-reconciling-requires c κs =
     let clear = c .before .before .before in
     clear .clear .ensures ∙ ap (λ (n : ℕ). replicate n 0) (sym (clear .clear .kept .0))
-
-within-requires : tie.Need-within-requires
-within-requires c κs = search needs
-
-same-length : tie.Need-same-length
-same-length c = search needs
 
 returns : tie.Need-returns
 returns c =
@@ -34,4 +25,4 @@ returns c =
 pub give-reconciling-spec : {M : Type 1} → statement M
 give-reconciling-spec =
     tie.close
-    (tie.spec clear-requires put-reconciling-requires within-requires same-length returns)
+    (tie.spec (λ c κs. search needs) put-reconciling-requires (λ c κs. search needs) (λ c. search needs) returns)

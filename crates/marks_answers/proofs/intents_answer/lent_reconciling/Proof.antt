@@ -7,21 +7,6 @@ use mir.Syntax.{w64}
 use mir.ValLaws.{toZ-ofZ}
 use borrow.Author.Tests.{not-true, not-false}
 
-marks-ok-requires : tie.Need-marks-ok-requires
-marks-ok-requires c κs = search needs
-
-clear-requires : tie.Need-clear-requires
-clear-requires c κs = search needs
-
-check-requires : tie.Need-check-requires
-check-requires c κs = search needs
-
-without-marks-requires : tie.Need-without-marks-requires
-without-marks-requires c κs = search needs
-
-same-length : tie.Need-same-length
-same-length c = search needs
-
 returns : tie.Need-returns
 returns c =
     let clear = c .before .before .before .before in
@@ -29,15 +14,6 @@ returns c =
     let ok = test .before in
     let e = sym (ok .marks-ok .ensures) ∙ not-true (ok .marks-ok .result) (test .if1 .taken) in
     (c .without-marks .ensures ∙ rw (c .before .check .ensures, e), clear .clear .ensures ∙ rw e)
-
-marks-of-requires : tie.Need-marks-of-requires
-marks-of-requires c κs = search needs
-
-reconcile-incomplete-intents-requires : tie.Need-reconcile-incomplete-intents-requires
-reconcile-incomplete-intents-requires c κs = search needs
-
-same-length-2 : tie.Need-same-length-2
-same-length-2 c = search needs
 
 returns-2 : tie.Need-returns-2
 returns-2 c =
@@ -53,14 +29,5 @@ returns-2 c =
 pub lent-reconciling-spec : {M : Type 1} → statement M
 lent-reconciling-spec =
     tie.close
-    (tie.spec
-    marks-ok-requires
-    clear-requires
-    check-requires
-    without-marks-requires
-    same-length
-    returns
-    marks-of-requires
-    reconcile-incomplete-intents-requires
-    same-length-2
-    returns-2)
+    (tie.spec (λ c κs. search needs) (λ c κs. search needs) (λ c κs. search needs) (λ c κs. search needs) (λ c. search needs) returns
+    (λ c κs. search needs) (λ c κs. search needs) (λ c. search needs) returns-2)

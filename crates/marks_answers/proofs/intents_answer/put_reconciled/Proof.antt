@@ -6,24 +6,6 @@ use mathlib.Core.Path.{_∙_}
 use denote.Ref.{now}
 use Rattle.marks_answers.proofs.Words.{reconciled-written}
 
-cast-put-u64 : tie.Need-cast-put-u64
-cast-put-u64 c = search needs
-
-put-u64-requires : tie.Need-put-u64-requires
-put-u64-requires c κs = search needs
-
-cast-put-u64-2 : tie.Need-cast-put-u64-2
-cast-put-u64-2 c = search needs
-
-put-u64-requires-2 : tie.Need-put-u64-requires-2
-put-u64-requires-2 c κs = search needs
-
-put-u64-requires-3 : tie.Need-put-u64-requires-3
-put-u64-requires-3 c κs = search needs
-
-same-length : tie.Need-same-length
-same-length c = search needs
-
 returns : tie.Need-returns
 returns c =
     let put = c .before .before in
@@ -36,11 +18,4 @@ returns c =
 pub put-reconciled-spec : {M : Type 1} → statement M
 put-reconciled-spec =
     tie.close
-    (tie.spec
-    cast-put-u64
-    put-u64-requires
-    cast-put-u64-2
-    put-u64-requires-2
-    put-u64-requires-3
-    same-length
-    returns)
+    (tie.spec (λ c. search needs) (λ c κs. search needs) (λ c. search needs) (λ c κs. search needs) (λ c κs. search needs) (λ c. search needs) returns)

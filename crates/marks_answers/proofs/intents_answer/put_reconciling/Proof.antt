@@ -8,27 +8,6 @@ use Prim.Native.Nat.{ℕ}
 use lib.Seq.{sets}
 use Rattle.marks_answers.specs.IntentsAnswer.{reconciledBytes}
 
-enum-known-r : tie.Need-enum-known-r
-enum-known-r c = search needs
-
-put-reconciled-requires : tie.Need-put-reconciled-requires
-put-reconciled-requires c κs = search needs
-
-enum-told : tie.Need-enum-told
-enum-told c = search needs
-
-enum-told-2 : tie.Need-enum-told-2
-enum-told-2 c = search needs
-
-enum-told-3 : tie.Need-enum-told-3
-enum-told-3 c = search needs
-
-enum-told-4 : tie.Need-enum-told-4
-enum-told-4 c = search needs
-
-same-length : tie.Need-same-length
-same-length c = search needs
-
 returns : tie.Need-returns
 returns c =
     let put = c .before .before in
@@ -51,16 +30,5 @@ returns-5 c = rw (c .enum-told4 .given .1) (refl, c .before .before .before .pre
 pub put-reconciling-spec : {M : Type 1} → statement M
 put-reconciling-spec =
     tie.close
-    (tie.spec
-    enum-known-r
-    put-reconciled-requires
-    enum-told
-    enum-told-2
-    enum-told-3
-    enum-told-4
-    same-length
-    returns
-    returns-2
-    returns-3
-    returns-4
-    returns-5)
+    (tie.spec (λ c. search needs) (λ c κs. search needs) (λ c. search needs) (λ c. search needs) (λ c. search needs) (λ c. search needs)
+    (λ c. search needs) returns returns-2 returns-3 returns-4 returns-5)

@@ -4,22 +4,10 @@ use Rattle.marks_answers.proofs.state_answer.broken_marks_of.Statement.
 use Rattle.marks_answers.proofs.state_answer.broken_marks_of.Tie as tie
 use mathlib.Core.Path.{_∙_}
 
-check-requires : tie.Need-check-requires
-check-requires c κs = search needs
-
-check-requires-2 : tie.Need-check-requires-2
-check-requires-2 c κs = search needs
-
-both-requires : tie.Need-both-requires
-both-requires c κs = search needs
-
-broken-marks-requires : tie.Need-broken-marks-requires
-broken-marks-requires c κs = search needs
-
 returns : tie.Need-returns
 returns c = c .broken-marks .ensures ∙ rw (c .before .both .ensures, c .before .before .before .check .ensures, c .before .before .check2 .ensures)
 
 pub broken-marks-of-spec : {M : Type 1} → statement M
 broken-marks-of-spec =
     tie.close
-    (tie.spec check-requires check-requires-2 both-requires broken-marks-requires returns)
+    (tie.spec (λ c κs. search needs) (λ c κs. search needs) (λ c κs. search needs) (λ c κs. search needs) returns)

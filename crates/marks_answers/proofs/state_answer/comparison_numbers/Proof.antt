@@ -3,21 +3,6 @@ use borrow.Author.Needs.{needs}
 use Rattle.marks_answers.proofs.state_answer.comparison_numbers.Statement.{statement}
 use Rattle.marks_answers.proofs.state_answer.comparison_numbers.Tie as tie
 
-enum-known-c : tie.Need-enum-known-c
-enum-known-c c = search needs
-
-truth-number-requires : tie.Need-truth-number-requires
-truth-number-requires c κs = search needs
-
-enum-told : tie.Need-enum-told
-enum-told c = search needs
-
-enum-told-2 : tie.Need-enum-told-2
-enum-told-2 c = search needs
-
-enum-told-3 : tie.Need-enum-told-3
-enum-told-3 c = search needs
-
 returns : tie.Need-returns
 returns c = rw (c .truth-number .ensures, c .before .before .c .given .1)
 
@@ -33,13 +18,5 @@ returns-4 c = rw (c .enum-told3 .given .1)
 pub comparison-numbers-spec : {M : Type 1} → statement M
 comparison-numbers-spec =
     tie.close
-    (tie.spec
-    enum-known-c
-    truth-number-requires
-    enum-told
-    enum-told-2
-    enum-told-3
-    returns
-    returns-2
-    returns-3
+    (tie.spec (λ c. search needs) (λ c κs. search needs) (λ c. search needs) (λ c. search needs) (λ c. search needs) returns returns-2 returns-3
     returns-4)

@@ -8,33 +8,12 @@ use borrow.Author.Tests.{not-true, not-false}
 use Rattle.wire.proofs.Bools.{and-left, and-right}
 use Rattle.marks_answers.proofs.Lent.{one-broken}
 
-marks-ok-requires : tie.Need-marks-ok-requires
-marks-ok-requires c κs = search needs
-
-marks-ok-requires-2 : tie.Need-marks-ok-requires-2
-marks-ok-requires-2 c κs = search needs
-
-broken-marks-of-requires : tie.Need-broken-marks-of-requires
-broken-marks-of-requires c κs = search needs
-
 returns : tie.Need-returns
 returns c =
     let b = c .before .before .marks-ok2 in
     let a = c .before .before .before .marks-ok in
     let e = rw (a .ensures, b .ensures) at (not-true (a .result && b .result) (c .before .if1 .taken)) in
     c .broken-marks-of .ensures ∙ rw (one-broken _ _ e)
-
-marks-of-requires : tie.Need-marks-of-requires
-marks-of-requires c κs = search needs
-
-marks-of-requires-2 : tie.Need-marks-of-requires-2
-marks-of-requires-2 c κs = search needs
-
-states-equal-requires : tie.Need-states-equal-requires
-states-equal-requires c κs = search needs
-
-equality-numbers-requires : tie.Need-equality-numbers-requires
-equality-numbers-requires c κs = search needs
 
 returns-2 : tie.Need-returns-2
 returns-2 c =
@@ -57,13 +36,5 @@ returns-2 c =
 pub lent-equality-spec : {M : Type 1} → statement M
 lent-equality-spec =
     tie.close
-    (tie.spec
-    marks-ok-requires
-    marks-ok-requires-2
-    broken-marks-of-requires
-    returns
-    marks-of-requires
-    marks-of-requires-2
-    states-equal-requires
-    equality-numbers-requires
-    returns-2)
+    (tie.spec (λ c κs. search needs) (λ c κs. search needs) (λ c κs. search needs) returns (λ c κs. search needs) (λ c κs. search needs)
+    (λ c κs. search needs) (λ c κs. search needs) returns-2)

@@ -4,18 +4,6 @@ use Rattle.marks_record.specs.MarksRecord.{marksOf}
 use Rattle.marks_answers.proofs.state_answer.open_queries.Statement.{statement}
 use Rattle.marks_answers.proofs.state_answer.open_queries.Tie as tie
 
-unanswered-at-requires : tie.Need-unanswered-at-requires
-unanswered-at-requires c κs = search needs
-
-unanswered-at-requires-2 : tie.Need-unanswered-at-requires-2
-unanswered-at-requires-2 c κs = search needs
-
-unanswered-at-requires-3 : tie.Need-unanswered-at-requires-3
-unanswered-at-requires-3 c κs = search needs
-
-unanswered-at-requires-4 : tie.Need-unanswered-at-requires-4
-unanswered-at-requires-4 c κs = search needs
-
 returns : tie.Need-returns
 unfolding marksOf
 returns c =
@@ -29,9 +17,4 @@ returns c =
 pub open-queries-spec : {M : Type 1} → statement M
 open-queries-spec =
     tie.close
-    (tie.spec
-    unanswered-at-requires
-    unanswered-at-requires-2
-    unanswered-at-requires-3
-    unanswered-at-requires-4
-    returns)
+    (tie.spec (λ c κs. search needs) (λ c κs. search needs) (λ c κs. search needs) (λ c κs. search needs) returns)

@@ -14,41 +14,8 @@ returns c =
     let a = c .before .before .args in
     sym (sets-past (now (a .d)) (a .at) (bytesOf 8 (a .w0) ++ bytesOf 8 (a .w1) ++ bytesOf 8 (a .w2) ++ bytesOf 8 (a .w3)) (c .if1 .taken))
 
-sub-if2 : tie.Need-sub-if2
-sub-if2 c = search needs
-
-put-whole-four-requires : tie.Need-put-whole-four-requires
-put-whole-four-requires c κs = search needs
-
-same-length : tie.Need-same-length
-same-length c = search needs
-
 returns-2 : tie.Need-returns-2
 returns-2 c = c .before .before .put-whole-four .ensures
-
-put-u64-requires : tie.Need-put-u64-requires
-put-u64-requires c κs = search needs
-
-add-put-u64 : tie.Need-add-put-u64
-add-put-u64 c = search needs
-
-put-u64-requires-2 : tie.Need-put-u64-requires-2
-put-u64-requires-2 c κs = search needs
-
-add-put-u64-2 : tie.Need-add-put-u64-2
-add-put-u64-2 c = search needs
-
-put-u64-requires-3 : tie.Need-put-u64-requires-3
-put-u64-requires-3 c κs = search needs
-
-add-put-u64-3 : tie.Need-add-put-u64-3
-add-put-u64-3 c = search needs
-
-put-u64-requires-4 : tie.Need-put-u64-requires-4
-put-u64-requires-4 c κs = search needs
-
-same-length-2 : tie.Need-same-length-2
-same-length-2 c = search needs
 
 returns-3 : tie.Need-returns-3
 returns-3 c =
@@ -59,18 +26,5 @@ returns-3 c =
 pub put-four-spec : {M : Type 1} → statement M
 put-four-spec =
     tie.close
-    (tie.spec
-    returns
-    sub-if2
-    put-whole-four-requires
-    same-length
-    returns-2
-    put-u64-requires
-    add-put-u64
-    put-u64-requires-2
-    add-put-u64-2
-    put-u64-requires-3
-    add-put-u64-3
-    put-u64-requires-4
-    same-length-2
-    returns-3)
+    (tie.spec returns (λ c. search needs) (λ c κs. search needs) (λ c. search needs) returns-2 (λ c κs. search needs) (λ c. search needs)
+    (λ c κs. search needs) (λ c. search needs) (λ c κs. search needs) (λ c. search needs) (λ c κs. search needs) (λ c. search needs) returns-3)

@@ -26,33 +26,6 @@ loop-holds c =
     let e = kinds-all (a .count) (now (a .report)) in
     (refl, search needs, search needs, ap length e ∙ omega arith, rw (add-zero (a .at), e))
 
-add-put-line : tie.Need-add-put-line Inv-loop μ-loop
-add-put-line c = search needs
-
-slice-aggregate-put-line : tie.Need-slice-aggregate-put-line Inv-loop μ-loop
-slice-aggregate-put-line c = search needs
-
-mul-u32-at : tie.Need-mul-u32-at Inv-loop μ-loop
-mul-u32-at c = search needs
-
-u32-at-requires : tie.Need-u32-at-requires Inv-loop μ-loop
-u32-at-requires c κs = search needs
-
-cast-put-line : tie.Need-cast-put-line Inv-loop μ-loop
-cast-put-line c = search needs
-
-put-line-requires : tie.Need-put-line-requires Inv-loop μ-loop
-put-line-requires c κs = search needs
-
-add-n : tie.Need-add-n Inv-loop μ-loop
-add-n c = search needs
-
-add-i : tie.Need-add-i Inv-loop μ-loop
-add-i c = search needs
-
-loop-less : tie.Need-loop-less Inv-loop μ-loop
-loop-less c = search needs
-
 loop-again : tie.Need-loop-again Inv-loop μ-loop
 loop-again c =
     let a = c .before .before .before .before .before .before .before .before .before .before .args in
@@ -74,19 +47,5 @@ returns c =
 pub put-kinds-spec : {M : Type 1} → statement M
 put-kinds-spec =
     tie.close
-    (tie.spec
-    Inv-loop
-    μ-loop
-    loop-holds
-    add-put-line
-    slice-aggregate-put-line
-    mul-u32-at
-    u32-at-requires
-    cast-put-line
-    put-line-requires
-    add-n
-    add-i
-    loop-less
-    loop-again
-    same-length
-    returns)
+    (tie.spec Inv-loop μ-loop loop-holds (λ c. search needs) (λ c. search needs) (λ c. search needs) (λ c κs. search needs) (λ c. search needs)
+    (λ c κs. search needs) (λ c. search needs) (λ c. search needs) (λ c. search needs) loop-again same-length returns)

@@ -12,35 +12,17 @@ use Rattle.reply.specs.Text.{lastLine}
 use Rattle.reply.proofs.text.put_last.Statement.{statement}
 use Rattle.reply.proofs.text.put_last.Tie as tie
 
-slice-aggregate-put-text : tie.Need-slice-aggregate-put-text
-slice-aggregate-put-text c = search needs
-
-put-text-requires : tie.Need-put-text-requires
-put-text-requires c κs = search needs
-
-add-put-checkpoint-name : tie.Need-add-put-checkpoint-name
-add-put-checkpoint-name c = search needs
-
-put-checkpoint-name-requires : tie.Need-put-checkpoint-name-requires
-put-checkpoint-name-requires c κs = search needs
-
 add-m : tie.Need-add-m
 add-m c = omega (arith, name-within (c .before .before .before .before .before .before .before .before .before .before .args .k))
 
 add-put-line : tie.Need-add-put-line
 add-put-line c = omega (arith, name-within (c .before .before .before .before .before .before .before .before .before .before .before .args .k))
 
-slice-aggregate-put-line : tie.Need-slice-aggregate-put-line
-slice-aggregate-put-line c = search needs
-
 put-line-requires : tie.Need-put-line-requires
 put-line-requires c κs = omega (arith, name-within (c .before .before .before .before .before .before .before .before .before .before .before .before .args .k))
 
 add-result : tie.Need-add-result
 add-result c = omega (arith, name-within (c .before .before .before .before .before .before .before .before .before .before .before .before .before .before .before .args .k))
-
-same-length : tie.Need-same-length
-same-length c = search needs
 
 returns : tie.Need-returns
 unfolding lastLine
@@ -56,15 +38,5 @@ returns c =
 pub put-last-spec : {M : Type 1} → statement M
 put-last-spec =
     tie.close
-    (tie.spec
-    slice-aggregate-put-text
-    put-text-requires
-    add-put-checkpoint-name
-    put-checkpoint-name-requires
-    add-m
-    add-put-line
-    slice-aggregate-put-line
-    put-line-requires
-    add-result
-    same-length
-    returns)
+    (tie.spec (λ c. search needs) (λ c κs. search needs) (λ c. search needs) (λ c κs. search needs) add-m add-put-line (λ c. search needs)
+    put-line-requires add-result (λ c. search needs) returns)

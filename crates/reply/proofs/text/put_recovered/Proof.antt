@@ -12,39 +12,6 @@ use borrow.Author.Needs.{needs}
 use Rattle.reply.proofs.text.put_recovered.Statement.{statement}
 use Rattle.reply.proofs.text.put_recovered.Tie as tie
 
-put-verdict-requires : tie.Need-put-verdict-requires
-put-verdict-requires c κs = search needs
-
-put-action-requires : tie.Need-put-action-requires
-put-action-requires c κs = search needs
-
-add-b : tie.Need-add-b
-add-b c = search needs
-
-put-last-requires : tie.Need-put-last-requires
-put-last-requires c κs = search needs
-
-add-c : tie.Need-add-c
-add-c c = search needs
-
-slice-aggregate-put-line : tie.Need-slice-aggregate-put-line
-slice-aggregate-put-line c = search needs
-
-cast-put-line : tie.Need-cast-put-line
-cast-put-line c = search needs
-
-put-line-requires : tie.Need-put-line-requires
-put-line-requires c κs = search needs
-
-add-e : tie.Need-add-e
-add-e c = search needs
-
-slice-aggregate-put-line-2 : tie.Need-slice-aggregate-put-line-2
-slice-aggregate-put-line-2 c = search needs
-
-cast-put-line-2 : tie.Need-cast-put-line-2
-cast-put-line-2 c = search needs
-
 put-line-requires-2 : tie.Need-put-line-requires-2
 put-line-requires-2 c κs = omega (arith, c .before .before .before .before .before .before .before .before .before .before .before .before .before .before .before .before .before .before .before .put-verdict .ensures, c .before .before .before .before .before .before .before .before .before .before .before .before .before .before .before .put-action .ensures, c .before .before .before .before .before .before .before .before .before .before .before .put-last .ensures, c .before .before .before .before .before .put-line .ensures)
 
@@ -81,19 +48,6 @@ returns c =
 pub put-recovered-spec : {M : Type 1} → statement M
 put-recovered-spec =
     tie.close
-    (tie.spec
-    put-verdict-requires
-    put-action-requires
-    add-b
-    put-last-requires
-    add-c
-    slice-aggregate-put-line
-    cast-put-line
-    put-line-requires
-    add-e
-    slice-aggregate-put-line-2
-    cast-put-line-2
-    put-line-requires-2
-    add-result
-    same-length
+    (tie.spec (λ c κs. search needs) (λ c κs. search needs) (λ c. search needs) (λ c κs. search needs) (λ c. search needs) (λ c. search needs)
+    (λ c. search needs) (λ c κs. search needs) (λ c. search needs) (λ c. search needs) (λ c. search needs) put-line-requires-2 add-result same-length
     returns)

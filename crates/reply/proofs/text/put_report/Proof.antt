@@ -12,24 +12,6 @@ use Rattle.reply.specs.Text.{kindLine, reportLines}
 use Rattle.reply.proofs.text.put_report.Statement.{statement}
 use Rattle.reply.proofs.text.put_report.Tie as tie
 
-slice-aggregate-put-line : tie.Need-slice-aggregate-put-line
-slice-aggregate-put-line c = search needs
-
-put-line-requires : tie.Need-put-line-requires
-put-line-requires c κs = search needs
-
-add-put-kinds : tie.Need-add-put-kinds
-add-put-kinds c = search needs
-
-put-kinds-requires : tie.Need-put-kinds-requires
-put-kinds-requires c κs = search needs
-
-add-result : tie.Need-add-result
-add-result c = search needs
-
-same-length : tie.Need-same-length
-same-length c = search needs
-
 returns : tie.Need-returns
 unfolding reportLines
 returns c =
@@ -42,11 +24,4 @@ returns c =
 pub put-report-spec : {M : Type 1} → statement M
 put-report-spec =
     tie.close
-    (tie.spec
-    slice-aggregate-put-line
-    put-line-requires
-    add-put-kinds
-    put-kinds-requires
-    add-result
-    same-length
-    returns)
+    (tie.spec (λ c. search needs) (λ c κs. search needs) (λ c. search needs) (λ c κs. search needs) (λ c. search needs) (λ c. search needs) returns)

@@ -8,18 +8,6 @@ use borrow.Author.Needs.{needs}
 use Rattle.reply.proofs.text.put_told.Statement.{statement}
 use Rattle.reply.proofs.text.put_told.Tie as tie
 
-put-recovered-requires : tie.Need-put-recovered-requires
-put-recovered-requires c κs = search needs
-
-put-report-requires : tie.Need-put-report-requires
-put-report-requires c κs = search needs
-
-add-result : tie.Need-add-result
-add-result c = search needs
-
-same-length : tie.Need-same-length
-same-length c = search needs
-
 returns : tie.Need-returns
 returns c =
     let a = c .before .before .before .before .before .before .before .before .before .before .args in
@@ -31,9 +19,4 @@ returns c =
 pub put-told-spec : {M : Type 1} → statement M
 put-told-spec =
     tie.close
-    (tie.spec
-    put-recovered-requires
-    put-report-requires
-    add-result
-    same-length
-    returns)
+    (tie.spec (λ c κs. search needs) (λ c κs. search needs) (λ c. search needs) (λ c. search needs) returns)

@@ -11,45 +11,6 @@ use borrow.Author.Needs.{needs}
 use Rattle.reply.proofs.text.put_verdict.Statement.{statement}
 use Rattle.reply.proofs.text.put_verdict.Tie as tie
 
-verdict-numbers-requires : tie.Need-verdict-numbers-requires
-verdict-numbers-requires c κs = search needs
-
-slice-aggregate-put-field : tie.Need-slice-aggregate-put-field
-slice-aggregate-put-field c = search needs
-
-cast-put-field : tie.Need-cast-put-field
-cast-put-field c = search needs
-
-put-field-requires : tie.Need-put-field-requires
-put-field-requires c κs = search needs
-
-slice-aggregate-put-field-2 : tie.Need-slice-aggregate-put-field-2
-slice-aggregate-put-field-2 c = search needs
-
-cast-put-field-2 : tie.Need-cast-put-field-2
-cast-put-field-2 c = search needs
-
-put-field-requires-2 : tie.Need-put-field-requires-2
-put-field-requires-2 c κs = search needs
-
-add-m : tie.Need-add-m
-add-m c = search needs
-
-slice-aggregate-put-line : tie.Need-slice-aggregate-put-line
-slice-aggregate-put-line c = search needs
-
-cast-put-line : tie.Need-cast-put-line
-cast-put-line c = search needs
-
-put-line-requires : tie.Need-put-line-requires
-put-line-requires c κs = search needs
-
-add-result : tie.Need-add-result
-add-result c = search needs
-
-same-length : tie.Need-same-length
-same-length c = search needs
-
 returns : tie.Need-returns
 unfolding verdictLine
 returns c =
@@ -67,18 +28,6 @@ returns c =
 pub put-verdict-spec : {M : Type 1} → statement M
 put-verdict-spec =
     tie.close
-    (tie.spec
-    verdict-numbers-requires
-    slice-aggregate-put-field
-    cast-put-field
-    put-field-requires
-    slice-aggregate-put-field-2
-    cast-put-field-2
-    put-field-requires-2
-    add-m
-    slice-aggregate-put-line
-    cast-put-line
-    put-line-requires
-    add-result
-    same-length
+    (tie.spec (λ c κs. search needs) (λ c. search needs) (λ c. search needs) (λ c κs. search needs) (λ c. search needs) (λ c. search needs)
+    (λ c κs. search needs) (λ c. search needs) (λ c. search needs) (λ c. search needs) (λ c κs. search needs) (λ c. search needs) (λ c. search needs)
     returns)

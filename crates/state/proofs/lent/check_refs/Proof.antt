@@ -24,12 +24,6 @@ returns c = let a = c .before .before .args in sym (ap soundIf (table-odd (refsO
 loop-holds : tie.Need-loop-holds Inv-loop μ-loop
 loop-holds c = let a = c .before .before .args in every-all (refsOk (a .text)) 64 _ (now (a .d))
 
-mul-refs-ok-at : tie.Need-mul-refs-ok-at Inv-loop μ-loop
-mul-refs-ok-at c = search needs
-
-refs-ok-at-requires : tie.Need-refs-ok-at-requires Inv-loop μ-loop
-refs-ok-at-requires c κs = search needs
-
 returns-2 : tie.Need-returns-2 Inv-loop μ-loop
 returns-2 c =
     let a = c .before .before .before .before .before .before .args in
@@ -41,12 +35,6 @@ returns-2 c =
     (table-even f 64 (now (a .d)) (c .before .before .before .before .if1 .left)
     ∙ l .inv
     ∙ every-stops f 64 _ (now (a .d)) (l .i) (c .before .before .loop-test .taken) (sym (r .ensures) ∙ not-true (r .result) (c .if2 .taken))))
-
-add-i : tie.Need-add-i Inv-loop μ-loop
-add-i c = search needs
-
-loop-less : tie.Need-loop-less Inv-loop μ-loop
-loop-less c = search needs
 
 loop-again : tie.Need-loop-again Inv-loop μ-loop
 loop-again c =
@@ -66,15 +54,5 @@ returns-3 c =
 pub check-refs-spec : {M : Type 1} → statement M
 check-refs-spec =
     tie.close
-    (tie.spec
-    Inv-loop
-    μ-loop
-    returns
-    loop-holds
-    mul-refs-ok-at
-    refs-ok-at-requires
-    returns-2
-    add-i
-    loop-less
-    loop-again
-    returns-3)
+    (tie.spec Inv-loop μ-loop returns loop-holds (λ c. search needs) (λ c κs. search needs) returns-2 (λ c. search needs) (λ c. search needs)
+    loop-again returns-3)

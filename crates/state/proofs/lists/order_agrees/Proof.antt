@@ -4,18 +4,10 @@ use Rattle.state.proofs.lists.order_agrees.Statement.{statement}
 use Rattle.state.proofs.lists.order_agrees.Tie as tie
 use mathlib.Core.Path.{_∙_}
 
-order-at-requires : tie.Need-order-at-requires
-order-at-requires c κs = search needs
-
-order-at-requires-2 : tie.Need-order-at-requires-2
-order-at-requires-2 c κs = search needs
-
-same-order-requires : tie.Need-same-order-requires
-same-order-requires c κs = search needs
-
 returns : tie.Need-returns
 returns c = c .same-order .ensures ∙ rw (c .before .order-at2 .ensures, c .before .before .order-at .ensures)
 
 pub order-agrees-spec : {M : Type 1} → statement M
 order-agrees-spec =
-    tie.close (tie.spec order-at-requires order-at-requires-2 same-order-requires returns)
+    tie.close
+    (tie.spec (λ c κs. search needs) (λ c κs. search needs) (λ c κs. search needs) returns)

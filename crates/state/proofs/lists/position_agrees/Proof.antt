@@ -4,18 +4,10 @@ use Rattle.state.proofs.lists.position_agrees.Statement.{statement}
 use Rattle.state.proofs.lists.position_agrees.Tie as tie
 use mathlib.Core.Path.{_∙_}
 
-position-at-requires : tie.Need-position-at-requires
-position-at-requires c κs = search needs
-
-position-at-requires-2 : tie.Need-position-at-requires-2
-position-at-requires-2 c κs = search needs
-
-same-position-requires : tie.Need-same-position-requires
-same-position-requires c κs = search needs
-
 returns : tie.Need-returns
 returns c = c .same-position .ensures ∙ rw (c .before .position-at2 .ensures, c .before .before .position-at .ensures)
 
 pub position-agrees-spec : {M : Type 1} → statement M
 position-agrees-spec =
-    tie.close (tie.spec position-at-requires position-at-requires-2 same-position-requires returns)
+    tie.close
+    (tie.spec (λ c κs. search needs) (λ c κs. search needs) (λ c κs. search needs) returns)

@@ -25,24 +25,12 @@ returns c =
 loop-holds : tie.Need-loop-holds Inv-loop μ-loop
 loop-holds c = let a = c .before .before .before .args in lists-all samePosition positionOf 32 _ (now (a .a)) (now (a .b)) _ (c .if1 .left)
 
-mul-position-agrees : tie.Need-mul-position-agrees Inv-loop μ-loop
-mul-position-agrees c = search needs
-
-position-agrees-requires : tie.Need-position-agrees-requires Inv-loop μ-loop
-position-agrees-requires c κs = search needs
-
 returns-2 : tie.Need-returns-2 Inv-loop μ-loop
 returns-2 c =
     let a = c .before .before .before .before .before .before .before .args in
     let l = c .before .before .before .loop in
     let r = c .before .position-agrees in
     sym (l .inv ∙ lists-differ samePosition positionOf 32 _ (now (a .a)) (now (a .b)) (l .i) (c .before .before .loop-test .taken) (sym (r .ensures) ∙ not-true (r .result) (c .if2 .taken)))
-
-add-i : tie.Need-add-i Inv-loop μ-loop
-add-i c = search needs
-
-loop-less : tie.Need-loop-less Inv-loop μ-loop
-loop-less c = search needs
 
 loop-again : tie.Need-loop-again Inv-loop μ-loop
 loop-again c =
@@ -60,15 +48,5 @@ returns-3 c =
 pub same-positions-spec : {M : Type 1} → statement M
 same-positions-spec =
     tie.close
-    (tie.spec
-    Inv-loop
-    μ-loop
-    returns
-    loop-holds
-    mul-position-agrees
-    position-agrees-requires
-    returns-2
-    add-i
-    loop-less
-    loop-again
-    returns-3)
+    (tie.spec Inv-loop μ-loop returns loop-holds (λ c. search needs) (λ c κs. search needs) returns-2 (λ c. search needs) (λ c. search needs)
+    loop-again returns-3)

@@ -6,16 +6,10 @@ use mathlib.Core.Path.{_∙_, ap}
 use lib.Dec.{eqb}
 use Rattle.state.proofs.Tables.{read-flags}
 
-flags-of-requires : tie.Need-flags-of-requires
-flags-of-requires c κs = search needs
-
-flags-of-requires-2 : tie.Need-flags-of-requires-2
-flags-of-requires-2 c κs = search needs
-
 returns : tie.Need-returns
 returns c =
     let a = c .before .before .args in
     rw (c .before .flags-of .ensures, c .flags-of2 .ensures, read-flags (a .o), read-flags (a .p))
 
 pub same-flags-spec : {M : Type 1} → statement M
-same-flags-spec = tie.close (tie.spec flags-of-requires flags-of-requires-2 returns)
+same-flags-spec = tie.close (tie.spec (λ c κs. search needs) (λ c κs. search needs) returns)

@@ -7,20 +7,11 @@ use Rattle.state.proofs.Tables.{fits-wide, same-wide}
 use Rattle.state.proofs.orders.same_order.Statement.{statement}
 use Rattle.state.proofs.orders.same_order.Tie as tie
 
-same-requires : tie.Need-same-requires
-same-requires c κs = search needs
-
-same-flags-requires : tie.Need-same-flags-requires
-same-flags-requires c κs = search needs
-
 cast-result : tie.Need-cast-result
 cast-result c = fits-wide (c .before .before .before .before .before .before .before .args .o .id) (search needs)
 
 cast-result-2 : tie.Need-cast-result-2
 cast-result-2 c = fits-wide (c .before .before .before .before .before .before .before .before .before .args .p .id) (search needs)
-
-same-texts-requires : tie.Need-same-texts-requires
-same-texts-requires c κs = search needs
 
 returns : tie.Need-returns
 unfolding sameOrder
@@ -35,4 +26,4 @@ returns c =
 pub same-order-spec : {M : Type 1} → statement M
 same-order-spec =
     tie.close
-    (tie.spec same-requires same-flags-requires cast-result cast-result-2 same-texts-requires returns)
+    (tie.spec (λ c κs. search needs) (λ c κs. search needs) cast-result cast-result-2 (λ c κs. search needs) returns)

@@ -4,12 +4,9 @@ use Rattle.state.specs.State.{samePosition}
 use Rattle.state.proofs.orders.same_position.Statement.{statement}
 use Rattle.state.proofs.orders.same_position.Tie as tie
 
-same-requires : tie.Need-same-requires
-same-requires c κs = search needs
-
 returns : tie.Need-returns
 unfolding samePosition
 returns c = cc
 
 pub same-position-spec : {M : Type 1} → statement M
-same-position-spec = tie.close (tie.spec same-requires returns)
+same-position-spec = tie.close (tie.spec (λ c κs. search needs) returns)

@@ -1,20 +1,15 @@
 -- `marks_record::numbers_ok`: what is left of the records decides.
-use Prim.Native.Nat.{_+_, _*_}
-use mathlib.Core.Path.{_≡_, refl, sym, ap, _∙_}
-use denote.Ref.{now}
+use mathlib.Core.Path.{refl, ap, _∙_}
 use native.Mathlib.Omega.{arith}
-use lib.ListN.{drop, length-drop}
+use lib.ListN.{length-drop}
 use borrow.Author.Needs.{needs}
-use borrow.Author.Tests.{not-true, not-false}
-use Rattle.wire.specs.Table.{every}
-use Rattle.wire.proofs.Table.{every-none, every-fails, every-goes}
+use Rattle.wire.proofs.Table.{Left, left-fails, left-goes, left-none}
 use Rattle.marks_record.specs.MarksRecord.{numberOk}
 use Rattle.marks_record.proofs.numbers_ok.Statement.{statement}
 use Rattle.marks_record.proofs.numbers_ok.Tie as tie
 
 abbrev Inv-loop : tie.InvT-loop
-Inv-loop s at₀ left₀ at left =
-    (at + 16 * left ≡ 16 * 8) × (every numberOk 16 8 s ≡ every numberOk 16 left (drop at s))
+Inv-loop s at₀ left₀ at left = Left numberOk 16 8 s at left
 
 abbrev μ-loop : tie.MeasureT-loop
 μ-loop s at₀ left₀ at left = left
@@ -27,21 +22,18 @@ number-ok-requires c κs = rw (c .rest .ensures, length-drop) (omega arith)
 
 returns : tie.Need-returns Inv-loop μ-loop
 returns c =
-    let a = c .before .before .before .before .before .before .args in
     let l = c .before .before .before .before .loop in
-    sym (l .inv .1 ∙ every-fails numberOk 16 (l .left) (l .at) (now (a .s)) (c .before .before .before .loop-test .taken) (ap numberOk (sym (c .before .before .rest .ensures)) ∙ sym (c .before .number-ok .ensures) ∙ not-true _ (c .if1 .taken)))
+    let r = c .before .number-ok in
+    left-fails numberOk 16 8 _ (l .at) (l .left) (l .inv) (c .before .before .before .loop-test .taken) (r .result) (r .ensures ∙ ap numberOk (c .before .before .rest .ensures)) (c .if1 .taken)
 
 loop-again : tie.Need-loop-again Inv-loop μ-loop
 loop-again c =
-    let a = c .before .before .before .before .before .before .args in
     let l = c .before .before .before .before .loop in
-    (search needs, l .inv .1 ∙ every-goes numberOk 16 (l .left) (l .at) (now (a .s)) (c .before .before .before .loop-test .taken) (ap numberOk (sym (c .before .before .rest .ensures)) ∙ sym (c .before .number-ok .ensures) ∙ not-false _ (c .if1 .left)))
+    let r = c .before .number-ok in
+    left-goes numberOk 16 8 _ (l .at) (l .left) (l .inv) (c .before .before .before .loop-test .taken) (r .result) (r .ensures ∙ ap numberOk (c .before .before .rest .ensures)) (c .if1 .left)
 
 returns-2 : tie.Need-returns-2 Inv-loop μ-loop
-returns-2 c =
-    let a = c .before .before .before .args in
-    let l = c .before .loop in
-    sym (l .inv .1 ∙ every-none numberOk 16 (l .left) (drop (l .at) (now (a .s))) (c .loop-test .left))
+returns-2 c = let l = c .before .loop in left-none numberOk 16 8 _ (l .at) (l .left) (l .inv) (c .loop-test .left)
 
 pub numbers-ok-spec : {M : Type 1} → statement M
 numbers-ok-spec =

@@ -1,19 +1,15 @@
 -- `marks_record::truths_ok`: what is left of the bytes decides.
-use Prim.Native.Nat.{_+_, _*_}
-use mathlib.Core.Path.{_≡_, refl, sym, _∙_}
-use denote.Ref.{now}
-use lib.ListN.{drop}
+use mathlib.Core.Path.{refl, sym}
+use mathlib.Core.Bool.{true, false}
 use borrow.Author.Needs.{needs}
 use borrow.Author.Tests.{lt-leb, le-leb}
-use Rattle.wire.specs.Table.{every}
-use Rattle.wire.proofs.Table.{every-none, every-fails, every-goes}
+use Rattle.wire.proofs.Table.{Left, left-fails, left-goes, left-none}
 use Rattle.marks_record.specs.MarksRecord.{truthOk}
 use Rattle.marks_record.proofs.truths_ok.Statement.{statement}
 use Rattle.marks_record.proofs.truths_ok.Tie as tie
 
 abbrev Inv-loop : tie.InvT-loop
-Inv-loop s at₀ left₀ at left =
-    (at + 1 * left ≡ 1 * 10) × (every truthOk 1 10 s ≡ every truthOk 1 left (drop at s))
+Inv-loop s at₀ left₀ at left = Left truthOk 1 10 s at left
 
 abbrev μ-loop : tie.MeasureT-loop
 μ-loop s at₀ left₀ at left = left
@@ -23,21 +19,16 @@ loop-holds c = (search needs, refl)
 
 returns : tie.Need-returns Inv-loop μ-loop
 returns c =
-    let a = c .before .before .before .before .before .args in
     let l = c .before .before .before .loop in
-    sym (l .inv .1 ∙ every-fails truthOk 1 (l .left) (l .at) (now (a .s)) (c .before .before .loop-test .taken) (rw (← c .before .u8-at .ensures) (lt-leb _ _ (c .if1 .taken))))
+    left-fails truthOk 1 10 _ (l .at) (l .left) (l .inv) (c .before .before .loop-test .taken) false (rw (← c .before .u8-at .ensures) (sym (lt-leb _ _ (c .if1 .taken)))) refl
 
 loop-again : tie.Need-loop-again Inv-loop μ-loop
 loop-again c =
-    let a = c .before .before .before .before .before .args in
     let l = c .before .before .before .loop in
-    (search needs, l .inv .1 ∙ every-goes truthOk 1 (l .left) (l .at) (now (a .s)) (c .before .before .loop-test .taken) (rw (← c .before .u8-at .ensures) (le-leb _ _ (c .if1 .left))))
+    left-goes truthOk 1 10 _ (l .at) (l .left) (l .inv) (c .before .before .loop-test .taken) true (rw (← c .before .u8-at .ensures) (sym (le-leb _ _ (c .if1 .left)))) refl
 
 returns-2 : tie.Need-returns-2 Inv-loop μ-loop
-returns-2 c =
-    let a = c .before .before .before .args in
-    let l = c .before .loop in
-    sym (l .inv .1 ∙ every-none truthOk 1 (l .left) (drop (l .at) (now (a .s))) (c .loop-test .left))
+returns-2 c = let l = c .before .loop in left-none truthOk 1 10 _ (l .at) (l .left) (l .inv) (c .loop-test .left)
 
 pub truths-ok-spec : {M : Type 1} → statement M
 truths-ok-spec =

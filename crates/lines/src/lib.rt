@@ -8,14 +8,6 @@ ghost use lib.Seq.{sets};
 ghost use Rattle.lines.specs.Lines.{decimal, checkpointName, field, line};
 use checkpoint::Checkpoint;
 
-// Writes a text from `at` on, and returns its length.
-pub fn put_text(d: &mut [u8], at: usize, s: &[u8]) -> usize
-    ensures { λ r. ⌜ (r ≡ length (now (s .entry))) × (now (d .exit) ≡ sets (now (d .entry)) at (now (s .entry))) ⌝ }
-{
-    wire::copy(d, at, s);
-    s.len()
-}
-
 // Writes the decimal digits of a number at the end of 20 bytes, and returns the place of the first.
 fn put_digits(d: &mut [u8], n: u64) -> usize
     requires { ⌜ length (now d) ≡ 20 ⌝ }
@@ -42,57 +34,29 @@ fn put_decimal(d: &mut [u8], at: usize, n: u64) -> usize
     20 - first
 }
 
-// The length of a checkpoint's name.
-fn name_length(k: Checkpoint) -> usize
-    ensures { λ r. ⌜ r ≡ length (checkpointName k) ⌝ }
-{
-    match k {
-        Checkpoint::RunStarted => 10,
-        Checkpoint::PositionsIntent => 15,
-        Checkpoint::PositionsFetched => 16,
-        Checkpoint::PositionsResult => 15,
-        Checkpoint::DiffComputed => 12,
-        Checkpoint::RiskCheckPassed => 15,
-        Checkpoint::OrderIntent => 11,
-        Checkpoint::OrderSubmitted => 14,
-        Checkpoint::OrderFailed => 11,
-        Checkpoint::OrderFilled => 11,
-        Checkpoint::QuotesIntent => 12,
-        Checkpoint::QuotesResult => 12,
-        Checkpoint::AccountSummaryIntent => 20,
-        Checkpoint::AccountSummaryResult => 20,
-        Checkpoint::CancelIntent => 12,
-        Checkpoint::CancelResult => 12,
-        Checkpoint::RunCompleted => 12,
-    }
-}
-
 // Writes a checkpoint's name from `at` on, and returns the name's length.
 pub fn put_checkpoint_name(d: &mut [u8], at: usize, k: Checkpoint) -> usize
     ensures { λ r. ⌜ (r ≡ length (checkpointName k)) × (now (d .exit) ≡ sets (now (d .entry)) at (checkpointName k)) ⌝ }
 {
-    // The names in the order of their numbers, each in 20 bytes.
-    let names = b"RunStarted          \
-          PositionsIntent     \
-          PositionsFetched    \
-          PositionsResult     \
-          DiffComputed        \
-          RiskCheckPassed     \
-          OrderIntent         \
-          OrderSubmitted      \
-          OrderFailed         \
-          OrderFilled         \
-          QuotesIntent        \
-          QuotesResult        \
-          AccountSummaryIntent\
-          AccountSummaryResult\
-          CancelIntent        \
-          CancelResult        \
-          RunCompleted        ";
-    let len = name_length(k);
-    let first = 20 * (k.number() as usize - 1);
-    wire::copy(d, at, wire::part(names, first, len));
-    len
+    match k {
+        Checkpoint::RunStarted => wire::put_text(d, at, b"RunStarted"),
+        Checkpoint::PositionsIntent => wire::put_text(d, at, b"PositionsIntent"),
+        Checkpoint::PositionsFetched => wire::put_text(d, at, b"PositionsFetched"),
+        Checkpoint::PositionsResult => wire::put_text(d, at, b"PositionsResult"),
+        Checkpoint::DiffComputed => wire::put_text(d, at, b"DiffComputed"),
+        Checkpoint::RiskCheckPassed => wire::put_text(d, at, b"RiskCheckPassed"),
+        Checkpoint::OrderIntent => wire::put_text(d, at, b"OrderIntent"),
+        Checkpoint::OrderSubmitted => wire::put_text(d, at, b"OrderSubmitted"),
+        Checkpoint::OrderFailed => wire::put_text(d, at, b"OrderFailed"),
+        Checkpoint::OrderFilled => wire::put_text(d, at, b"OrderFilled"),
+        Checkpoint::QuotesIntent => wire::put_text(d, at, b"QuotesIntent"),
+        Checkpoint::QuotesResult => wire::put_text(d, at, b"QuotesResult"),
+        Checkpoint::AccountSummaryIntent => wire::put_text(d, at, b"AccountSummaryIntent"),
+        Checkpoint::AccountSummaryResult => wire::put_text(d, at, b"AccountSummaryResult"),
+        Checkpoint::CancelIntent => wire::put_text(d, at, b"CancelIntent"),
+        Checkpoint::CancelResult => wire::put_text(d, at, b"CancelResult"),
+        Checkpoint::RunCompleted => wire::put_text(d, at, b"RunCompleted"),
+    }
 }
 
 // Writes a text and a number after it from `at` on, and returns the length of both.
@@ -100,7 +64,7 @@ pub fn put_field(d: &mut [u8], at: usize, word: &[u8], n: u64) -> usize
     requires { ⌜ at + length (now word) < 65536 ⌝ }
     ensures { λ r. ⌜ (r ≡ length (field (now (word .entry)) n)) × (now (d .exit) ≡ sets (now (d .entry)) at (field (now (word .entry)) n)) × (r ≤ length (now (word .entry)) + 20) ⌝ }
 {
-    let len = put_text(d, at, word);
+    let len = wire::put_text(d, at, word);
     len + put_decimal(d, at + len, n)
 }
 
@@ -110,5 +74,5 @@ pub fn put_line(d: &mut [u8], at: usize, word: &[u8], n: u64) -> usize
     ensures { λ r. ⌜ (r ≡ length (line (now (word .entry)) n)) × (now (d .exit) ≡ sets (now (d .entry)) at (line (now (word .entry)) n)) × (r ≤ length (now (word .entry)) + 21) ⌝ }
 {
     let len = put_field(d, at, word, n);
-    len + put_text(d, at + len, b"\n")
+    len + wire::put_text(d, at + len, b"\n")
 }

@@ -21,7 +21,7 @@ use Rattle.book.specs.declared.event.SequenceNumber.the-variants as N
 use Rattle.checkpoint.specs.Checkpoint.{checkpointNumber, checkpoints}
 use Rattle.checkpoint.specs.declared.Checkpoint.{Checkpoint}
 use Rattle.checkpoint.specs.declared.Checkpoint.the-variants.{RunStarted, PositionsIntent, PositionsFetched, PositionsResult, DiffComputed, RiskCheckPassed, OrderIntent, OrderSubmitted, OrderFailed, OrderFilled, QuotesIntent, QuotesResult, AccountSummaryIntent, AccountSummaryResult, CancelIntent, CancelResult, RunCompleted}
-use Rattle.checkpoint.proofs.Names.{number-within}
+use Rattle.checkpoint.proofs.Numbers.{number-within}
 use Rattle.marks.specs.declared.Marks.{Marks}
 use Rattle.marks.specs.declared.Pair.{Pair}
 use Rattle.marks_record.specs.MarksRecord.{truthNumber, numberBytes, flagBytes, pairBytes, marksBytes, checkpointOf, truthOf, numberOf, pairOf, marksOf, truthOk, numberOk, marksOk}

@@ -26,9 +26,9 @@ fn put_action(d: &mut [u8], at: usize, a: RecoveryAction) -> usize
     ensures { λ r. ⌜ (r ≡ length (actionLine a)) × (now (d .exit) ≡ sets (now (d .entry)) at (actionLine a)) × (r < 100) ⌝ }
 {
     match a {
-        RecoveryAction::Restart => lines::put_text(d, at, b"action Restart\n"),
-        RecoveryAction::Resume => lines::put_text(d, at, b"action Resume\n"),
-        RecoveryAction::ManualReview => lines::put_text(d, at, b"action ManualReview\n"),
+        RecoveryAction::Restart => wire::put_text(d, at, b"action Restart\n"),
+        RecoveryAction::Resume => wire::put_text(d, at, b"action Resume\n"),
+        RecoveryAction::ManualReview => wire::put_text(d, at, b"action ManualReview\n"),
     }
 }
 
@@ -36,7 +36,7 @@ fn put_last(d: &mut [u8], at: usize, k: Checkpoint, number: u64) -> usize
     requires { ⌜ at < 65000 ⌝ }
     ensures { λ r. ⌜ (r ≡ length (lastLine k number)) × (now (d .exit) ≡ sets (now (d .entry)) at (lastLine k number)) × (r < 100) ⌝ }
 {
-    let n = lines::put_text(d, at, b"last ");
+    let n = wire::put_text(d, at, b"last ");
     let m = n + lines::put_checkpoint_name(d, at + n, k);
     m + lines::put_line(d, at + m, b" ", number)
 }

@@ -304,6 +304,14 @@ pub fn copy(d: &mut [u8], at: usize, s: &[u8])
     }
 }
 
+// The same, and returns how many bytes they are.
+pub fn put_text(d: &mut [u8], at: usize, s: &[u8]) -> usize
+    ensures { λ r. ⌜ (r ≡ length (now (s .entry))) × (now (d .exit) ≡ sets (now (d .entry)) at (now (s .entry))) ⌝ }
+{
+    copy(d, at, s);
+    s.len()
+}
+
 // Makes every byte of `d` zero.
 pub fn clear(d: &mut [u8])
     ensures { λ _. ⌜ now (d .exit) ≡ replicate (length (now (d .entry))) 0 ⌝ }

@@ -34,15 +34,20 @@ use Rattle.reply.specs.Lent.{resultIn, recoveredOf}
 use Rattle.reply.specs.declared.LentResult.the-variants as X
 use Rattle.reply.proofs.Compared.{kindsOf, not-told, compared-few, compared-longer}
 
--- the book is sound where neither file is refused
-first-sound : (b : Bool) (l m : Layout) → firstRefusal (oversizeIf b l) m ≡ L.Sound → l ≡ L.Sound
-first-sound true l m h = cc
-first-sound false L.Sound m h = refl
-first-sound false L.Oversize m h = h
-first-sound false L.Broken m h = h
+-- the book and the sheet are sound where neither file is refused
+own-sound : (b : Bool) (l : Layout) → oversizeIf b l ≡ L.Sound → l ≡ L.Sound
+own-sound true l h = cc
+own-sound false l h = h
 
-pub book-sound : (book sheet : List ℕ) → filesLayout book sheet ≡ L.Sound → bookLayout book ≡ L.Sound
-book-sound book sheet h = first-sound (ltb 65536 (length book)) (bookLayout book) (fileLayout sheet (sheetLayout sheet)) h
+first-sound : (l m : Layout) → firstRefusal l m ≡ L.Sound → (l ≡ L.Sound) × (m ≡ L.Sound)
+first-sound L.Sound m h = (refl, h)
+first-sound L.Oversize m h = (h, (cc))
+first-sound L.Broken m h = (h, (cc))
+
+pub files-sound : (book sheet : List ℕ) → filesLayout book sheet ≡ L.Sound → (bookLayout book ≡ L.Sound) × (sheetLayout sheet ≡ L.Sound)
+files-sound book sheet h =
+    let f = first-sound (fileLayout book (bookLayout book)) (fileLayout sheet (sheetLayout sheet)) h in
+    (own-sound (ltb 65536 (length book)) (bookLayout book) (f .0), own-sound (ltb 65536 (length sheet)) (sheetLayout sheet) (f .1))
 
 -- n zeros are as many as there are
 pub blank-whole : (s : List ℕ) (n : ℕ) → s ≡ replicate n 0 → s ≡ replicate (length s) 0

@@ -68,7 +68,7 @@ fn files_layout(book: &[u8], sheet: &[u8]) -> Layout
     first_refusal(b, s)
 }
 
-// The result of a verdict and a recovery, by the recovered orders and positions and the sheet.
+// The result of a verdict and a recovery, by the recovered orders and positions and a sound sheet.
 fn compared_result(
     v: Verdict,
     r: Recovered,
@@ -77,10 +77,11 @@ fn compared_result(
     sheet: &[u8],
     report: &mut [u8],
 ) -> LentResult
+    requires { ⌜ sheetLayout (now sheet) ≡ Layout.Sound ⌝ }
     ensures { λ x. ⌜ resultIn x (now (report .exit)) ≡ comparedResult (length (now (report .entry))) v r (now (orders .entry)) (now (positions .entry)) (now (sheet .entry)) ⌝ }
 {
     let marks = r.marks;
-    match compare::compare_broker_state(marks, orders, positions, sheet, report) {
+    match compare::compare_sound_sheet(marks, orders, positions, sheet, report) {
         Comparison::Done(c) => {
             let count = c.count;
             LentResult::Told(v, r, count)
@@ -91,7 +92,7 @@ fn compared_result(
     }
 }
 
-// The result of a sound book and a sheet, by three buffers of one length; those of the orders and the positions are zero.
+// The result of a sound book and a sound sheet, by three buffers of one length; those of the orders and the positions are zero.
 fn book_result(
     book: &[u8],
     sheet: &[u8],
@@ -99,7 +100,7 @@ fn book_result(
     positions: &mut [u8],
     report: &mut [u8],
 ) -> LentResult
-    requires { ⌜ (bookLayout (now book) ≡ Layout.Sound) × (now orders ≡ replicate (length (now report)) 0) × (now positions ≡ replicate (length (now report)) 0) ⌝ }
+    requires { ⌜ (bookLayout (now book) ≡ Layout.Sound) × (sheetLayout (now sheet) ≡ Layout.Sound) × (now orders ≡ replicate (length (now report)) 0) × (now positions ≡ replicate (length (now report)) 0) ⌝ }
     ensures { λ x. ⌜ resultIn x (now (report .exit)) ≡ bookResult (length (now (report .entry))) (pos 0) (now (book .entry)) (now (sheet .entry)) ⌝ }
 {
     match recovery::recover::recover(book, 0, orders, positions) {
@@ -122,9 +123,9 @@ fn book_result(
     }
 }
 
-// The text of a sound book's result, by short buffers; none where they do not suffice.
+// The text of the result of a sound book and a sound sheet, by short buffers; none where they do not suffice.
 fn put_short(d: &mut [u8], book: &[u8], sheet: &[u8]) -> Replied
-    requires { ⌜ bookLayout (now book) ≡ Layout.Sound ⌝ }
+    requires { ⌜ (bookLayout (now book) ≡ Layout.Sound) × (sheetLayout (now sheet) ≡ Layout.Sound) ⌝ }
     ensures { λ x. ⌜ Puts x (resultText (bookResult 65536 (pos 0) (now (book .entry)) (now (sheet .entry)))) (now (d .entry)) (now (d .exit)) ⌝ }
 {
     let mut orders = [0u8; 4096];
@@ -139,7 +140,7 @@ fn put_short(d: &mut [u8], book: &[u8], sheet: &[u8]) -> Replied
 
 // The same by buffers of 65,536 bytes: where they do not suffice, the text is a refusal's.
 fn put_long(d: &mut [u8], book: &[u8], sheet: &[u8]) -> usize
-    requires { ⌜ bookLayout (now book) ≡ Layout.Sound ⌝ }
+    requires { ⌜ (bookLayout (now book) ≡ Layout.Sound) × (sheetLayout (now sheet) ≡ Layout.Sound) ⌝ }
     ensures { λ x. ⌜ Writes x (resultText (bookResult 65536 (pos 0) (now (book .entry)) (now (sheet .entry)))) (now (d .entry)) (now (d .exit)) ⌝ }
 {
     let mut orders = [0u8; 65536];
@@ -155,7 +156,7 @@ fn put_long(d: &mut [u8], book: &[u8], sheet: &[u8]) -> usize
 // The same by short buffers, or by long ones where those do not suffice: a short reply takes a short frame. Files of more than 16,384 bytes go by long ones
 // at once, so that little is worked out twice.
 fn put_book(d: &mut [u8], book: &[u8], sheet: &[u8]) -> usize
-    requires { ⌜ bookLayout (now book) ≡ Layout.Sound ⌝ }
+    requires { ⌜ (bookLayout (now book) ≡ Layout.Sound) × (sheetLayout (now sheet) ≡ Layout.Sound) ⌝ }
     ensures { λ x. ⌜ Writes x (resultText (bookResult 65536 (pos 0) (now (book .entry)) (now (sheet .entry)))) (now (d .entry)) (now (d .exit)) ⌝ }
 {
     if 16384 < book.len() + sheet.len() {

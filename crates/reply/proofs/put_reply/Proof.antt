@@ -3,14 +3,14 @@ use mathlib.Core.Path.{sym, _∙_}
 use borrow.Author.Needs.{needs}
 use denote.Ref.{now}
 use Rattle.reply.specs.Reply.{replyText}
-use Rattle.reply.proofs.Parts.{book-sound}
+use Rattle.reply.proofs.Parts.{files-sound}
 use Rattle.reply.proofs.put_reply.Statement.{statement}
 use Rattle.reply.proofs.put_reply.Tie as tie
 
 put-book-requires : tie.Need-put-book-requires
 put-book-requires c κs =
     let a = c .before .before .before .before .before .before .before .args in
-    book-sound (now (a .book)) (now (a .sheet)) (sym (c .before .before .before .files-layout .ensures) ∙ c .before .enum-told .given .1)
+    files-sound (now (a .book)) (now (a .sheet)) (sym (c .before .before .before .files-layout .ensures) ∙ c .before .enum-told .given .1)
 
 returns : tie.Need-returns
 unfolding replyText

@@ -5,13 +5,12 @@ use Rattle.compare.proofs.compare_sound_sheet.Statement.{statement}
 use Rattle.compare.proofs.compare_sound_sheet.Tie as tie
 
 compare-lent-requires : tie.Need-compare-lent-requires
-compare-lent-requires c κs = c .before .both .ensures ∙ rw (c .before .before .before .before .before .before .before .before .before .pre, c .before .before .before .check-orders .ensures, c .before .before .check-positions .ensures)
+compare-lent-requires c κs = c .before .records-layout .ensures ∙ rw (c .before .before .before .before .before .before .before .pre)
 
 returns : tie.Need-returns
-returns c = c .before .before .compare-lent .ensures (c .before .before .before .before .before .before .before .before .before .before .before .before .args .marks) (c .before .before .before .before .before .before .before .unanswered-of .ensures)
+returns c = c .before .before .compare-lent .ensures (c .before .before .before .before .before .before .before .before .before .before .args .marks) (c .before .before .before .before .before .unanswered-of .ensures)
 
 pub compare-sound-sheet-spec : {M : Type 1} → statement M
 compare-sound-sheet-spec =
     tie.close
-    (tie.spec (λ c κs. search needs) (λ c κs. search needs) (λ c κs. search needs) (λ c κs. search needs) compare-lent-requires (λ c. search needs)
-    returns)
+    (tie.spec (λ c κs. search needs) (λ c κs. search needs) compare-lent-requires (λ c. search needs) returns)

@@ -30,16 +30,8 @@ pub fn highest_numbers(h: Highest) -> Numbers
             a: n,
             b: 0,
         },
-        Highest::Oversize => Numbers {
-            refusal: 1,
-            a: 0,
-            b: 0,
-        },
-        Highest::Broken => Numbers {
-            refusal: 2,
-            a: 0,
-            b: 0,
-        },
+        Highest::Oversize => answers::OVERSIZE,
+        Highest::Broken => answers::BROKEN,
     }
 }
 
@@ -57,16 +49,8 @@ pub fn window_numbers(w: Window) -> Numbers
             a: 0,
             b: 0,
         },
-        Window::Oversize => Numbers {
-            refusal: 1,
-            a: 0,
-            b: 0,
-        },
-        Window::Broken => Numbers {
-            refusal: 2,
-            a: 0,
-            b: 0,
-        },
+        Window::Oversize => answers::OVERSIZE,
+        Window::Broken => answers::BROKEN,
     }
 }
 
@@ -79,10 +63,6 @@ pub fn reply_numbers(r: Replied) -> Numbers
             a: n as u64,
             b: 0,
         },
-        Replied::NoRoom => Numbers {
-            refusal: 3,
-            a: 0,
-            b: 0,
-        },
+        Replied::NoRoom => answers::NO_ROOM,
     }
 }

@@ -31,8 +31,7 @@ use Rattle.records.proofs.Orders.{RefFits, nothing}
 use Rattle.effects.specs.Event.{Row, Event}
 use Rattle.effects.specs.Step.{symbolOr, symbolFrom, refOr, wholeOr, limitOf, limitOr, newOrder, orderOfRow, ordersFrom, withClient, asFailed, asSubmitted, asFilled, intended, intentBy, failedBy, submittedBy, filledBy, ordersAt, ordersBy, ordersStep}
 use Rattle.effects.proofs.CellFits.{ref-fits, limit-fits, new-fits}
-use Rattle.effects.proofs.Fits.{each-append, client-fits, failed-fits, filled-fits}
-use Rattle.sound_state.proofs.Tables.{each-change}
+use Rattle.effects.proofs.Fits.{each-append, each-changed, client-fits, failed-fits, filled-fits}
 use Rattle.sound_state.proofs.Spelling.{Spelt, spelt-fits, unknown-spelt, parsed-spelt}
 use Rattle.sound_state.proofs.Good.{RefIn, StrIn, Good, GoodStr, TextBytes, GoodRow, GoodRows, GoodEvent}
 
@@ -128,21 +127,21 @@ module _ (n : ℕ) (os : List Order) (h : Each (Good n) os) where
           (record { sfits = toSigned-in 63 x }) gc
 
       by : (v : Bool) → Each (Good n) (cond v (changeFirst (hasText t) (withClient client) os) (os ++ (newOrder (symbolOr (parsed t)) a q (limitOf x) client ∷ [])))
-      by true = each-change (hasText t) (withClient client) (client-good n client gc) os h
+      by true = each-changed (hasText t) (withClient client) (client-good n client gc) os h
       by false = each-append os (newOrder (symbolOr (parsed t)) a q (limitOf x) client) h fresh
 
   failed-all : (t : Option (List ℕ)) (a : AsStr) → GoodStr n a → Each (Good n) (failedBy t a os)
   failed-all none a g = h
-  failed-all (some t) a g = each-change (hasText t) (asFailed a) (failed-good n a g) os h
+  failed-all (some t) a g = each-changed (hasText t) (asFailed a) (failed-good n a g) os h
 
   submitted-all : (id : AsI64) (t : Option (List ℕ)) → Each (Good n) (submittedBy id t os)
   submitted-all I64.Nothing t = h
   submitted-all (I64.Is z) none = h
-  submitted-all (I64.Is z) (some t) = each-change (hasText t) (asSubmitted z) (submitted-good n z) os h
+  submitted-all (I64.Is z) (some t) = each-changed (hasText t) (asSubmitted z) (submitted-good n z) os h
 
   filled-all : (id : AsI64) → Each (Good n) (filledBy id os)
   filled-all I64.Nothing = h
-  filled-all (I64.Is z) = each-change (hasId z) asFilled (filled-good n) os h
+  filled-all (I64.Is z) = each-changed (hasId z) asFilled (filled-good n) os h
 
   pub orders-step : (e : Event) → GoodEvent n e → Each (Good n) (ordersStep e os)
   unfolding ordersBy ordersAt

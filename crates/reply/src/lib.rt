@@ -128,9 +128,9 @@ fn put_short(d: &mut [u8], book: &[u8], sheet: &[u8]) -> Replied
     requires { ⌜ (bookLayout (now book) ≡ Layout.Sound) × (sheetLayout (now sheet) ≡ Layout.Sound) ⌝ }
     ensures { λ x. ⌜ Puts x (resultText (bookResult 65536 (pos 0) (now (book .entry)) (now (sheet .entry)))) (now (d .entry)) (now (d .exit)) ⌝ }
 {
-    let mut orders = [0u8; 4096];
-    let mut positions = [0u8; 4096];
-    let mut report = [0u8; 4096];
+    let mut orders = [0u8; 2048];
+    let mut positions = [0u8; 2048];
+    let mut report = [0u8; 2048];
     let x = book_result(book, sheet, &mut orders, &mut positions, &mut report);
     match x {
         LentResult::Refused(_) => Replied::NoRoom,

@@ -9,12 +9,12 @@ use Rattle.reply.proofs.put_short.Tie as tie
 put-told-requires : tie.Need-put-told-requires
 put-told-requires c κs =
     let a = c .before .before .before .before .before .before .before .before .before .before .before .before .before .before .before .args in
-    count-few (now (a .book)) (now (a .sheet)) 4096 (lit≤ tt) _ _ _ _ (rw (c .before .before .before .x .given .1) at (c .before .before .before .before .before .before .before .before .book-result .ensures))
+    count-few (now (a .book)) (now (a .sheet)) 2048 (lit≤ tt) _ _ _ _ (rw (c .before .before .before .x .given .1) at (c .before .before .before .before .before .before .before .before .book-result .ensures))
 
 returns-2 : tie.Need-returns-2
 returns-2 c =
     let a = c .before .before .before .before .before .before .before .before .before .before .before .before .before .before .before .before .before .before .args in
-    rw (told-longer (now (a .book)) (now (a .sheet)) 4096 (lit≤ tt) _ _ _ _ (rw (c .before .before .before .before .before .before .x .given .1) at (c .before .before .before .before .before .before .before .before .before .before .before .book-result .ensures))) (c .before .before .put-told .ensures)
+    rw (told-longer (now (a .book)) (now (a .sheet)) 2048 (lit≤ tt) _ _ _ _ (rw (c .before .before .before .before .before .before .x .given .1) at (c .before .before .before .before .before .before .before .before .before .before .before .book-result .ensures))) (c .before .before .put-told .ensures)
 
 pub put-short-spec : {M : Type 1} → statement M
 put-short-spec =

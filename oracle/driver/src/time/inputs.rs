@@ -106,7 +106,8 @@ pub struct Log {
     pub bytes: Vec<u8>,
     pub sheet: Vec<u8>,
     pub path: PathBuf,
-    pub events: Vec<AuditEvent>,
+    /// They stay for the whole run, so that they can be lent.
+    pub events: &'static [AuditEvent],
     pub broker: Ready,
 }
 
@@ -115,7 +116,7 @@ impl Log {
         let text = lines(&book, Texts::of(&book), false);
         let path = folder.0.join(format!("{number}.jsonl"));
         std::fs::write(&path, &text).map_err(|e| e.to_string())?;
-        let events = audit::parse_audit_events_from_str(&text).map_err(|e| format!("{e:?}"))?;
+        let events = audit::parse_audit_events_from_str(&text).map_err(|e| format!("{e:?}"))?.leak();
         Ok(Log { bytes: book.bytes(), sheet: sheet.bytes(), broker: Ready::new(sheet)?, path, events, book })
     }
 

@@ -2,6 +2,8 @@
 
 use std::hint::black_box;
 
+use super::rows::Side;
+
 /// The least time of a sample, and what a set of samples takes about, in nanoseconds.
 const SAMPLE: u128 = 1_000_000;
 const SET: u128 = 700_000_000;
@@ -21,7 +23,7 @@ fn processor() -> u128 {
     at[0] as u128 * 1_000_000_000 + at[1] as u128
 }
 
-/// Merges what the pass before has freed. Else the first large allocation does so, within one count and not within another that is taken off it.
+/// Merges what the pass before has freed. Else the first large allocation does so, within one count and not within another.
 pub fn merged() {
     extern "C" {
         fn malloc_trim(pad: usize) -> i32;
@@ -37,7 +39,9 @@ pub fn measured(call: &mut dyn FnMut() -> u64) {
     black_box(call());
 }
 
+/// So many passes, after one that does not count: the side before may have filled the caches.
 fn passed(passes: u128, call: &mut dyn FnMut() -> u64) -> u128 {
+    black_box(call());
     let start = processor();
     for _ in 0..passes {
         black_box(call());
@@ -69,30 +73,22 @@ pub struct Line {
     pub passes: u128,
 }
 
-/// Two sets of samples of each side. Where a row has the sides `whole` and `parse`, `less` is their difference, sample by sample.
-pub fn sets(sides: &mut [(&str, &mut dyn FnMut() -> u64)]) -> Vec<Line> {
-    let passes: Vec<u128> = sides.iter_mut().map(|(_, call)| enough(*call)).collect();
-    let round: u128 = sides.iter_mut().zip(&passes).map(|((_, call), n)| passed(*n, *call)).sum();
+/// Two sets of samples of each side; the library's is the first.
+pub fn sets(sides: &mut [(&str, Side)]) -> Vec<Line> {
+    let passes: Vec<u128> = sides.iter_mut().map(|(_, call)| enough(call)).collect();
+    let round: u128 = sides.iter_mut().zip(&passes).map(|((_, call), n)| passed(*n, call)).sum();
     let samples = (SET / round.max(1)).clamp(FEWEST, MOST) | 1;
-    let place = |name: &str| sides.iter().position(|(side, _)| *side == name);
-    let (library, both) = (place("library"), place("whole").zip(place("parse")));
     let line = |side: &str, passes| Line { side: side.to_string(), medians: [0.0; 2], ratios: [0.0; 2], samples, passes };
     let mut lines: Vec<Line> = sides.iter().zip(&passes).map(|((side, _), n)| line(side, *n)).collect();
-    lines.extend(both.map(|(whole, _)| line("less", passes[whole])));
     for set in 0..2 {
         let mut times: Vec<Vec<f64>> = vec![Vec::new(); sides.len()];
         for _ in 0..samples {
             for (i, (_, call)) in sides.iter_mut().enumerate() {
-                times[i].push(passed(passes[i], *call) as f64 / passes[i] as f64 / 1_000.0);
+                times[i].push(passed(passes[i], call) as f64 / passes[i] as f64 / 1_000.0);
             }
-        }
-        if let Some((whole, parse)) = both {
-            times.push(times[whole].iter().zip(&times[parse]).map(|(w, p)| w - p).collect());
         }
         for (line, times_of) in lines.iter_mut().zip(&times) {
-            if let Some(library) = library {
-                line.ratios[set] = median(times_of.iter().zip(&times[library]).map(|(t, l)| t / l).collect());
-            }
+            line.ratios[set] = median(times_of.iter().zip(&times[0]).map(|(t, l)| t / l).collect());
             line.medians[set] = median(times_of.clone());
         }
     }

@@ -21,13 +21,7 @@ pub fn time(only: Option<(&str, &str)>) -> Result<bool, String> {
         let folder = Folder::new()?;
         let row = rows::row(name, input, &folder)?;
         row.check().map_err(|e| format!("{name} on {input}: {e}"))?;
-        let Row { size, mut library, mut parsed, mut whole, mut parse, .. } = row;
-        let mut sides: Vec<(&str, &mut dyn FnMut() -> u64)> = vec![("library", &mut library)];
-        for (side, call) in [("parsed", &mut parsed), ("whole", &mut whole), ("parse", &mut parse)] {
-            if let Some(call) = call {
-                sides.push((side, call));
-            }
-        }
+        let Row { size, mut sides, .. } = row;
         for line in sets(&mut sides) {
             let ([first, second], [once, again]) = (line.medians, line.ratios);
             println!("{name}\t{input}\t{size}\t{}\t{first:.4}\t{second:.4}\t{once:.5}\t{again:.5}\t{}\t{}", line.side, line.samples, line.passes);
@@ -47,7 +41,7 @@ pub fn apart(room: usize, only: Option<(&str, &str)>) -> Result<bool, String> {
 pub fn list() -> Result<bool, String> {
     for (name, inputs) in ROWS {
         for input in *inputs {
-            println!("{name}\t{input}\t{}", rows::sides(name).join(" "));
+            println!("{name}\t{input}\t{}", rows::names(name).join(" "));
         }
     }
     Ok(true)
@@ -56,14 +50,8 @@ pub fn list() -> Result<bool, String> {
 /// One side of one row, once to warm up and then so many times inside `measured`.
 pub fn once(name: &str, input: &str, side: &str, passes: u64) -> Result<bool, String> {
     let folder = Folder::new()?;
-    let Row { mut library, parsed, whole, parse, .. } = rows::row(name, input, &folder)?;
-    let mut call = match side {
-        "library" => &mut library as &mut dyn FnMut() -> u64,
-        "parsed" => &mut *parsed.ok_or("the row has no such side")?,
-        "whole" => &mut *whole.ok_or("the row has no such side")?,
-        "parse" => &mut *parse.ok_or("the row has no such side")?,
-        _ => return Err(format!("no side: {side}")),
-    };
+    let row = rows::row(name, input, &folder)?;
+    let (_, mut call) = row.sides.into_iter().find(|(of, _)| *of == side).ok_or(format!("the row has no such side: {side}"))?;
     call();
     for _ in 0..passes {
         measure::merged();

@@ -9,8 +9,8 @@ use std::sync::atomic::{AtomicBool, AtomicUsize, Ordering};
 use oracle::doc01::book::{ORDERS, POSITIONS};
 use oracle::doc01::records::{DISCREPANCY, ORDER, POSITION};
 use oracle::original;
-use rebalancer::recovery::Discrepancy;
-use rebalancer::{audit, reconcile, recovery};
+use parsed::recovery::{self, Discrepancy, RecoveredState, RecoveryAction};
+use rebalancer::{audit, reconcile};
 
 use super::inputs::{self, Folder, Lists, Log, FLOATS};
 use driver::entries::{self, Bytes, Entry};
@@ -38,14 +38,22 @@ pub const ROWS: &[(&str, &[&str])] = &[
 const ORDERS_ROOM: usize = 8_192 * ORDER;
 const POSITIONS_ROOM: usize = 4_096 * POSITION;
 
-/// The sides of a row. `parsed`: the original on parsed values; `whole`: with reading and parsing its file; `parse`: reading and parsing alone.
-pub fn sides(row: &str) -> &'static [&'static str] {
+/// The original's sides of a row. `parsed`: on parsed values; `whole`: with the reading and parsing of its file.
+pub fn sides(row: &str) -> &'static [(&'static str, fn(&Given) -> u64)] {
     match row {
-        "validate" => &["library", "parsed", "whole"],
-        "reply" => &["library", "whole", "parse"],
-        _ if row.starts_with("recover") => &["library", "whole", "parse"],
-        _ => &["library", "parsed"],
+        "validate" => &[("parsed", validated), ("whole", validated_whole)],
+        "recover" | "recover-16" | "recover-positions" | "recover-diffs" => &[("parsed", recovered), ("whole", recovered_whole)],
+        "compare" => &[("parsed", compared)],
+        "drift" | "drift-shared" | "drift-distinct" => &[("parsed", drifted)],
+        "reply" => &[("parsed", replied), ("whole", replied_whole)],
+        _ => &[],
     }
+}
+
+/// The names of all sides of a row. A float leaf has one of the original's, on the same values.
+pub fn names(row: &str) -> Vec<&'static str> {
+    let others: Vec<&str> = sides(row).iter().map(|(name, _)| *name).collect();
+    [vec!["library"], if others.is_empty() { vec!["parsed"] } else { others }].concat()
 }
 
 /// One pass over a row's inputs; the sum of a number of each answer.
@@ -53,10 +61,8 @@ pub type Side = Box<dyn FnMut() -> u64>;
 
 pub struct Row {
     pub size: usize,
-    pub library: Side,
-    pub parsed: Option<Side>,
-    pub whole: Option<Side>,
-    pub parse: Option<Side>,
+    /// The library's is the first.
+    pub sides: Vec<(&'static str, Side)>,
     judged: Box<dyn Fn() -> Result<(), String>>,
 }
 
@@ -121,7 +127,7 @@ fn lend_on(asked: &mut [Asked]) {
 }
 
 /// A row of questions to one entry. `read` gives the number of an answer that the original's side gives too.
-fn asking(size: usize, mut asked: Vec<Asked>, read: fn(u32, &Arguments) -> u64, sides: [Option<fn(&Given) -> u64>; 3], given: Given) -> Row {
+fn asking(row: &str, size: usize, mut asked: Vec<Asked>, read: fn(u32, &Arguments) -> u64, given: Given) -> Row {
     if !APART.load(Ordering::Relaxed) {
         lend_on(&mut asked);
     }
@@ -137,10 +143,12 @@ fn asking(size: usize, mut asked: Vec<Asked>, read: fn(u32, &Arguments) -> u64, 
             answers(black_box(&ready))
         }
     };
-    let [parsed, whole, parse] = sides.map(|side| {
+    let others = sides(row);
+    let mut sides: Vec<(&str, Side)> = vec![("library", Box::new(library))];
+    for (name, side) in others {
         let given = given.clone();
-        side.map(|side| Box::new(move || side(black_box(&given))) as Side)
-    });
+        sides.push((name, Box::new(move || side(black_box(&given)))));
+    }
     let judged = move || {
         for (i, a) in asked.iter().enumerate() {
             a.judged()?;
@@ -152,18 +160,16 @@ fn asking(size: usize, mut asked: Vec<Asked>, read: fn(u32, &Arguments) -> u64, 
             }
         }
         let sum = answers(&ready);
-        for side in [sides[0], sides[1]].into_iter().flatten() {
-            if side(&given) != sum {
-                return Err("the two sides do not answer alike".into());
-            }
+        if others.iter().any(|(_, side)| side(&given) != sum) {
+            return Err("the two sides do not answer alike".into());
         }
         Ok(())
     };
-    Row { size, library: Box::new(library), parsed, whole, parse, judged: Box::new(judged) }
+    Row { size, sides, judged: Box::new(judged) }
 }
 
 /// What the original is given.
-enum Given {
+pub enum Given {
     Logs(Vec<Log>),
     States(Vec<(Log, recovery::RecoveredState)>),
     Lists(Vec<Lists>),
@@ -183,17 +189,17 @@ pub fn row(name: &str, input: &str, folder: &Folder) -> Result<Row, String> {
         "validate" => {
             let logs = inputs::logs(input, folder, false)?;
             let asked = logs.iter().map(|l| Asked::new(&entries::VERDICT, vec![l.bytes.clone()], vec![], &[])).collect();
-            Ok(asking(events(&logs), asked, |number, _| (number == 0) as u64, [Some(validated), Some(validated_whole), None], Given::Logs(logs)))
+            Ok(asking(name, events(&logs), asked, |number, _| (number == 0) as u64, Given::Logs(logs)))
         }
-        "recover" => Ok(recovery_of(inputs::logs(input, folder, false)?, most)),
-        "recover-16" => Ok(recovery_of(inputs::sixteen(number()?, folder)?, most)),
-        "recover-positions" => Ok(recovery_of(inputs::replaced("positions_fetched", POSITIONS, folder)?, |_| [ORDERS_ROOM, large(POSITIONS_ROOM)])),
-        "recover-diffs" => Ok(recovery_of(inputs::replaced("diff_computed", ORDERS, folder)?, |_| [large(ORDERS_ROOM), POSITIONS_ROOM])),
+        "recover" => Ok(recovery_of(name, inputs::logs(input, folder, false)?, most)),
+        "recover-16" => Ok(recovery_of(name, inputs::sixteen(number()?, folder)?, most)),
+        "recover-positions" => Ok(recovery_of(name, inputs::replaced("positions_fetched", POSITIONS, folder)?, |_| [ORDERS_ROOM, large(POSITIONS_ROOM)])),
+        "recover-diffs" => Ok(recovery_of(name, inputs::replaced("diff_computed", ORDERS, folder)?, |_| [large(ORDERS_ROOM), POSITIONS_ROOM])),
         "compare" => {
             let logs = if let Ok(orders) = number() { inputs::submitted(orders, folder)? } else { inputs::logs(input, folder, false)? };
             let (mut asked, mut states, mut size) = (Vec::new(), Vec::new(), 0);
             for log in logs {
-                let (state, _) = recovery::reconstruct_state(&log.path).map_err(|e| format!("{e:?}"))?;
+                let (state, _) = recover(&log).map_err(|e| format!("{e:?}"))?;
                 let records = original::recover(&log.book, 0).map_err(|e| e.0)?.state;
                 let lent = vec![records.marks.bytes(), records.order_bytes(), records.position_bytes(), log.sheet.clone()];
                 // No record of the report but for a row of the sheet, an order, a position or one of four marks.
@@ -202,7 +208,7 @@ pub fn row(name: &str, input: &str, folder: &Folder) -> Result<Row, String> {
                 asked.push(Asked::new(&entries::COMPARE, lent, vec![], &[DISCREPANCY * most]));
                 states.push((log, state));
             }
-            Ok(asking(size, asked, |_, a| a.word(0), [Some(compared), None, None], Given::States(states)))
+            Ok(asking(name, size, asked, |_, a| a.word(0), Given::States(states)))
         }
         "drift-shared" | "drift-distinct" | "drift" => {
             let lists = if name == "drift" { inputs::random_lists()? } else { inputs::lists(number()?, name == "drift-shared")? };
@@ -210,13 +216,13 @@ pub fn row(name: &str, input: &str, folder: &Folder) -> Result<Row, String> {
             let asked = lists.iter().map(ask).collect();
             let longest = lists.iter().map(|l| l.held.len().max(l.targets.len()).max(l.prices.len()));
             let size = if name == "drift" { longest.sum() } else { longest.max().unwrap_or(0) };
-            Ok(asking(size, asked, |_, a| a.word(0).wrapping_add(a.word(1) >> 16), [Some(drifted), None, None], Given::Lists(lists)))
+            Ok(asking(name, size, asked, |_, a| a.word(0).wrapping_add(a.word(1) >> 16), Given::Lists(lists)))
         }
         "reply" => {
             let logs = inputs::logs(input, folder, true)?;
             let ask = |l: &Log| Asked::new(&entries::REPLY, vec![l.bytes.clone(), l.sheet.clone()], vec![], &[ROOM.load(Ordering::Relaxed)]);
             let asked = logs.iter().map(ask).collect();
-            Ok(asking(events(&logs), asked, |_, a| a.word(0), [None, Some(replied), Some(parsed)], Given::Logs(logs)))
+            Ok(asking(name, events(&logs), asked, |_, a| a.word(0), Given::Logs(logs)))
         }
         "cents" => Ok(leaf(library_cents, |f| nanobook_broker::types::f64_cents_checked(f, "value").map_or(0, |n| n as u64))),
         "fixed" => Ok(leaf(library_fixed, |f| nanobook_broker::types::f64_to_fixed_checked(f, 10_000.0, "value").map_or(0, |n| n as u64))),
@@ -226,10 +232,10 @@ pub fn row(name: &str, input: &str, folder: &Folder) -> Result<Row, String> {
 }
 
 /// A row of recoveries, each with rooms for its orders and positions.
-fn recovery_of(logs: Vec<Log>, rooms: impl Fn(&Log) -> [usize; 2]) -> Row {
+fn recovery_of(row: &str, logs: Vec<Log>, rooms: impl Fn(&Log) -> [usize; 2]) -> Row {
     let ask = |l: &Log| Asked::new(&entries::RECOVER, vec![l.bytes.clone()], vec![0], &rooms(l));
     let asked = logs.iter().map(ask).collect();
-    asking(events(&logs), asked, |_, a| a.word(22) << 32 | a.word(23), [None, Some(recovered), Some(parsed)], Given::Logs(logs))
+    asking(row, events(&logs), asked, |_, a| a.word(22) << 32 | a.word(23), Given::Logs(logs))
 }
 
 fn events(logs: &[Log]) -> usize {
@@ -245,14 +251,19 @@ fn validated_whole(given: &Given) -> u64 {
     given.logs().iter().map(|l| one(l) as u64).sum()
 }
 
+/// The original's recovery of the log's parsed events.
+fn recover(log: &Log) -> parsed::error::Result<(RecoveredState, RecoveryAction)> {
+    parsed::audit::lend(log.events);
+    recovery::reconstruct_state(&log.path)
+}
+
 fn recovered(given: &Given) -> u64 {
-    let one = |l: &Log| recovery::reconstruct_state(&l.path).map_or(0, |(state, _)| (state.orders.len() as u64) << 32 | state.positions.len() as u64);
+    let one = |l: &Log| recover(l).map_or(0, |(state, _)| (state.orders.len() as u64) << 32 | state.positions.len() as u64);
     given.logs().iter().map(one).sum()
 }
 
-/// The file read and parsed; the events are dropped one by one, as recovery drops them.
-fn parsed(given: &Given) -> u64 {
-    let one = |l: &Log| audit::parse_audit_events(&l.path).map_or(0, |events| events.into_iter().map(|event| black_box(event).event.len() as u64).sum());
+fn recovered_whole(given: &Given) -> u64 {
+    let one = |l: &Log| rebalancer::recovery::reconstruct_state(&l.path).map_or(0, |(state, _)| (state.orders.len() as u64) << 32 | state.positions.len() as u64);
     given.logs().iter().map(one).sum()
 }
 
@@ -274,10 +285,15 @@ fn replied(given: &Given) -> u64 {
     given.logs().iter().map(|l| reply(l).len() as u64).sum()
 }
 
-/// The desk's reply of the original's steps: validation of the parsed events, recovery from the file, comparison, and the text.
+fn replied_whole(given: &Given) -> u64 {
+    let one = |l: &Log| audit::parse_audit_events(&l.path).map_or(0, |_| reply(l).len() as u64);
+    given.logs().iter().map(one).sum()
+}
+
+/// The desk's reply of the original's steps: validation and recovery of the parsed events, comparison, and the text.
 fn reply(log: &Log) -> String {
     let verdict = original::verdict_of(audit::validate_checkpoints_from_parsed(&log.events));
-    let recovered = recovery::reconstruct_state(&log.path).and_then(|(state, action)| Ok((recovery::compare_broker_state(&log.broker, &state)?, state, action)));
+    let recovered = recover(log).and_then(|(state, action)| Ok((recovery::compare_broker_state(&log.broker, &state)?, state, action)));
     let Ok((report, state, action)) = recovered else { return String::new() };
     let mut out = String::new();
     let mut lines = || {
@@ -318,7 +334,7 @@ fn leaf(library: fn(f64) -> u64, original: fn(f64) -> u64) -> Row {
         }
     };
     let over = move |of: fn(f64) -> u64, floats: Vec<f64>| Box::new(move || floats.iter().fold(0, |sum: u64, f| sum.wrapping_add(of(black_box(*f))))) as Side;
-    Row { size: FLOATS, library: over(library, floats.clone()), parsed: Some(over(original, floats)), whole: None, parse: None, judged: Box::new(judged) }
+    Row { size: FLOATS, sides: vec![("library", over(library, floats.clone())), ("parsed", over(original, floats))], judged: Box::new(judged) }
 }
 
 extern "C" {

@@ -270,18 +270,18 @@ int32_t desk_truncated_i32(int64_t n);
  * The figure for each call:
  * desk_check_book                          192
  * desk_check_sheet                         128
- * desk_reply                           212,096
+ * desk_reply                           206,080
  * desk_validate_checkpoints                256
  * desk_max_checkpoint_sequence             256
  * desk_check_window_already_complete       320
- * desk_reconstruct_state                 2,240
- * desk_step                              1,088
+ * desk_reconstruct_state                 2,368
+ * desk_step                              1,216
  * desk_recovery_action                     704
  * desk_states_equal                      1,536
  * desk_compare_broker_state                512
  * desk_reconcile_incomplete_intents        960
  * desk_join                                448
- * desk_round                             2,176
+ * desk_round                             2,304
  * desk_reconcile                        67,264
  * desk_held_value                       33,088
  * desk_f64_to_fixed_checked                 64
@@ -295,7 +295,7 @@ int32_t desk_truncated_i32(int64_t n);
  * desk_sign_extended                        64
  * desk_truncated_i32                        64
  */
-enum { DESK_STACK = 212096 };
+enum { DESK_STACK = 206080 };
 
 #ifdef __cplusplus
 }

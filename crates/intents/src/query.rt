@@ -68,10 +68,8 @@ pub fn choose(sheet: &[u8]) -> Chosen
     let n = sheet::order_count(sheet);
     let mut i: u32 = 0;
     while i < n {
-        let order = sheet::order_at(sheet, i);
-        if 0 < order.remaining {
-            let id = order.id;
-            return Chosen::Is(id);
+        if 0 < sheet::remaining_at(sheet, i) {
+            return Chosen::Is(sheet::order_id_at(sheet, i));
         }
         i += 1;
     }

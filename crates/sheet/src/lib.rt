@@ -75,6 +75,19 @@ pub fn order_at(sheet: &[u8], i: u32) -> BrokerOrderStatus
     order_of(wire::from(sheet, 24 + 24 * (i as usize)))
 }
 
+// Of that order its id alone, and what remains of it.
+pub fn order_id_at(sheet: &[u8], i: u32) -> OrderId
+    ensures { λ r. ⌜ r ≡ brokerOrderOf (drop (24 + 24 * i) (now (sheet .entry))) .id ⌝ }
+{
+    OrderId(wire::u64_at(sheet, 24 + 24 * (i as usize)))
+}
+
+pub fn remaining_at(sheet: &[u8], i: u32) -> u64
+    ensures { λ r. ⌜ r ≡ brokerOrderOf (drop (24 + 24 * i) (now (sheet .entry))) .remaining ⌝ }
+{
+    wire::u64_at(wire::from(sheet, 24 + 24 * (i as usize)), 8)
+}
+
 // The position at the front of a slice, and that of a sheet's table at index `i`, counted from 0.
 fn position_of(s: &[u8]) -> BrokerPosition
     ensures { λ r. ⌜ r ≡ brokerPositionOf (now (s .entry)) ⌝ }

@@ -94,6 +94,16 @@ module _ {A : Type 0} (f : A → List ℕ) (w : ℕ) (size : (x : A) → length 
       length-encoded (set xs i y) ∙ ap (λ (k : ℕ). w * k) (length-set xs i y) ∙ sym (length-encoded xs) in
       rw e (replaced-in xs i y (replicate (n - length (encoded f xs)) 0) h)
 
+  -- a record in its place, and the records after it
+  pub encoded-from : (xs : List A) (i : ℕ) (x : A) (z : List ℕ) → i < length xs
+      → drop (w * i) (encoded f xs ++ z) ≡ f (getD xs i x) ++ (encoded f (drop (suc i) xs) ++ z)
+  unfolding encoded
+  encoded-from [] i x z h = absurd (not-suc-le-zero h)
+  encoded-from (y ∷ xs) zero x z h = rw (mul-zero, append-assoc)
+  encoded-from (y ∷ xs) (suc i) x z h =
+      let e : w * suc i ≡ length (f y) + w * i = rw (size y, mul-suc) (omega arith) in
+      rw (append-assoc, e, drop-append-add) (encoded-from xs i x z (le-of-suc-le-suc h))
+
 -- ---- what records stand for
 -- P of each element
 pub data Each {A : Type 0} (P : A → Type 0) : List A → Type 0 where

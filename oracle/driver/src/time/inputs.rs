@@ -4,7 +4,7 @@ use std::path::PathBuf;
 
 use nanobook::Symbol;
 use nanobook_broker::{Account, Broker, BrokerError, BrokerOrder, BrokerOrderStatus, OrderId, OrderState, Position, Quote};
-use oracle::doc01::book::{Book, Cell, Event, Row, TextRef, ACTION, CLIENT, HEADER, IBKR, LIMIT, MAX_BYTES, MAX_COUNT, ORDERS, POSITIONS, ROW, SHARES, SYMBOL};
+use oracle::doc01::book::{Book, Cell, Event, Row, TextRef, ACTION, CLIENT, EVENT, HEADER, IBKR, LIMIT, MAX_BYTES, MAX_COUNT, ORDERS, POSITIONS, ROW, SHARES, SYMBOL};
 use oracle::doc01::sheet::{SheetOrder, SheetPosition};
 use oracle::doc01::{self, drift, records, Sheet};
 use oracle::generator::{case, Case, DriftCase, LogCase};
@@ -242,6 +242,19 @@ pub fn sixteen(events: usize, folder: &Folder) -> Result<Vec<Log>, String> {
             1 => settled(&mut book, submitted, order),
             _ => settled(&mut book, filled, order),
         }
+    }
+    Ok(vec![Log::new(folder, 0, book, &Sheet::default())?])
+}
+
+/// So many orders of a diff's list, submitted and filled from the last on, as far as a book has bytes and events.
+pub fn from_last(orders: usize, folder: &Folder) -> Result<Vec<Log>, String> {
+    let mut book = begun(orders, 0);
+    let [submitted, filled] = ["order_submitted", "order_filled"].map(|t| text(&mut book, t));
+    let bytes = (MAX_BYTES - book.length()) / (EVENT + letters(0).len());
+    let events = bytes.min(MAX_COUNT as usize - book.events.len());
+    for order in (0..orders).rev().take(events / 2) {
+        settled(&mut book, submitted, order);
+        settled(&mut book, filled, order);
     }
     Ok(vec![Log::new(folder, 0, book, &Sheet::default())?])
 }

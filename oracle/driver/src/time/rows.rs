@@ -22,6 +22,7 @@ pub const ROWS: &[(&str, &[&str])] = &[
     ("validate", &["reference", "random", "random-30", "random-3000", "largest", "64", "256", "1024", "4096"]),
     ("recover", &["reference", "random", "largest", "64", "256", "1024", "4096"]),
     ("recover-16", &["64", "256", "1024", "4096"]),
+    ("recover-last", &["2600"]),
     ("recover-positions", &["every-book", "16-MiB"]),
     ("recover-diffs", &["every-book", "16-MiB"]),
     ("compare", &["reference", "random", "64", "256", "1024", "4096"]),
@@ -42,7 +43,7 @@ const POSITIONS_ROOM: usize = 4_096 * POSITION;
 pub fn sides(row: &str) -> &'static [(&'static str, fn(&Given) -> u64)] {
     match row {
         "validate" => &[("parsed", validated), ("whole", validated_whole)],
-        "recover" | "recover-16" | "recover-positions" | "recover-diffs" => &[("parsed", recovered), ("whole", recovered_whole)],
+        "recover" | "recover-16" | "recover-last" | "recover-positions" | "recover-diffs" => &[("parsed", recovered), ("whole", recovered_whole)],
         "compare" => &[("parsed", compared)],
         "drift" | "drift-shared" | "drift-distinct" => &[("parsed", drifted)],
         "reply" => &[("parsed", replied), ("whole", replied_whole)],
@@ -193,6 +194,7 @@ pub fn row(name: &str, input: &str, folder: &Folder) -> Result<Row, String> {
         }
         "recover" => Ok(recovery_of(name, inputs::logs(input, folder, false)?, most)),
         "recover-16" => Ok(recovery_of(name, inputs::sixteen(number()?, folder)?, most)),
+        "recover-last" => Ok(recovery_of(name, inputs::from_last(number()?, folder)?, most)),
         "recover-positions" => Ok(recovery_of(name, inputs::replaced("positions_fetched", POSITIONS, folder)?, |_| [ORDERS_ROOM, large(POSITIONS_ROOM)])),
         "recover-diffs" => Ok(recovery_of(name, inputs::replaced("diff_computed", ORDERS, folder)?, |_| [large(ORDERS_ROOM), POSITIONS_ROOM])),
         "compare" => {

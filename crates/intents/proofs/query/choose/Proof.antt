@@ -21,17 +21,17 @@ loop-holds c = refl
 
 returns : tie.Need-returns Inv-loop μ-loop
 returns c =
-    let l = c .before .before .before .before .before .loop in
-    let s = now (c .before .before .before .before .before .before .before .before .args .sheet) in
-    let h : l .i < orderCount s = rw (← c .before .before .before .before .before .before .order-count .ensures) (c .before .before .before .before .loop-test .taken) in
-    sym (l .inv ∙ chosen-here s (l .i) (c .before .before .before .order-at .result) h (c .before .before .before .order-at .ensures) (c .before .if1 .taken))
-
-loop-again : tie.Need-loop-again Inv-loop μ-loop
-loop-again c =
     let l = c .before .before .before .before .loop in
     let s = now (c .before .before .before .before .before .before .before .args .sheet) in
     let h : l .i < orderCount s = rw (← c .before .before .before .before .before .order-count .ensures) (c .before .before .before .loop-test .taken) in
-    l .inv ∙ chosen-on s (l .i) (c .before .before .order-at .result) h (c .before .before .order-at .ensures) (c .if1 .left)
+    sym (l .inv ∙ chosen-here s (l .i) h (rw (← c .before .before .remaining-at .ensures) (c .before .if1 .taken)) ∙ rw (c .order-id-at .ensures))
+
+loop-again : tie.Need-loop-again Inv-loop μ-loop
+loop-again c =
+    let l = c .before .before .before .loop in
+    let s = now (c .before .before .before .before .before .before .args .sheet) in
+    let h : l .i < orderCount s = rw (← c .before .before .before .before .order-count .ensures) (c .before .before .loop-test .taken) in
+    l .inv ∙ chosen-on s (l .i) h (rw (← c .before .remaining-at .ensures) (c .if1 .left))
 
 returns-2 : tie.Need-returns-2 Inv-loop μ-loop
 returns-2 c =
@@ -43,5 +43,5 @@ returns-2 c =
 pub choose-spec : {M : Type 1} → statement M
 choose-spec =
     tie.close
-    (tie.spec Inv-loop μ-loop (λ c κs. search needs) loop-holds (λ c κs. search needs) returns (λ c. search needs) (λ c. search needs) loop-again
-    returns-2)
+    (tie.spec Inv-loop μ-loop (λ c κs. search needs) loop-holds (λ c κs. search needs) (λ c κs. search needs) returns (λ c. search needs) (λ c. search needs)
+    loop-again returns-2)

@@ -75,7 +75,7 @@ pub fn order_at(sheet: &[u8], i: u32) -> BrokerOrderStatus
     order_of(wire::from(sheet, 24 + 24 * (i as usize)))
 }
 
-// Of that order its id alone, and what remains of it.
+// The id of that order alone, and what remains of it.
 pub fn order_id_at(sheet: &[u8], i: u32) -> OrderId
     ensures { λ r. ⌜ r ≡ brokerOrderOf (drop (24 + 24 * i) (now (sheet .entry))) .id ⌝ }
 {

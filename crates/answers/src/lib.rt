@@ -3,6 +3,8 @@
 //
 // A result is the refusal's number, and two numbers in the first sixteen bytes of `answer` or a record of another size; `specs/` says which. An answer
 // that has no room is refused by 3, after every other refusal, and then its bytes and the outputs beside it are zero.
+#![tactic(auto)]
+
 ghost use Rattle.std.specs.Prelude.{◌≡◌, length};
 ghost use Rattle.wire.specs.Layout.{layout_number};
 ghost use Rattle.answers.specs.Answer.{room_number, unless_short, answer_number, answer_bytes};

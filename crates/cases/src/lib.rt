@@ -1,4 +1,6 @@
 // What the programs that read a file of cases share: the file, a line of the answer, and zeros.
+#![tactic(auto)]
+
 ghost use Rattle.std.specs.Prelude.{◌≡◌, length};
 
 use libc::STDOUT_FILENO;

@@ -1,6 +1,8 @@
 // The desk on pairs of files, by the function that the desk program is made of. For each pair a line with the two names, then the reply.
 //
 // It reads the files, written by `make`, from the folder it is run in. Of a name that `make` does not write the file is missing.
+#![tactic(auto)]
+
 use libc::STDOUT_FILENO;
 
 fn case(book: &[u8], sheet: &[u8]) {

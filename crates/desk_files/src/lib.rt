@@ -4,6 +4,8 @@
 // buffers are types: 65,537 bytes for a file, one more than it may have, so that a larger one is seen as such. `run` is what the desk program and
 // the program `desk_cases` are made of. Of it no contract says what is read and written, since none can of a call of the system: that the first bytes of each
 // buffer are those of its file, so many as are counted, and that the first bytes of `out` are written, is read in the lines below and run by `desk_cases`.
+#![tactic(auto)]
+
 ghost use Rattle.std.specs.Prelude.{◌≡◌, ◌+◌, ◌≤◌, length};
 ghost use Rattle.wire.specs.Table.{padded};
 ghost use Rattle.desk_files.specs.Printed.{printed};

@@ -4,6 +4,8 @@
 // is not finite or beyond ±1,000 (11), a product or a share difference outside i64 (12), and a buffer that cannot take all entries (3).
 //
 // The symbols are kept in order in an array, as numbers that compare as the symbols do; what was last said of each stands beside it.
+#![tactic(auto)]
+
 pub mod entry;
 pub mod report;
 pub mod rows;

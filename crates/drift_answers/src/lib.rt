@@ -1,4 +1,6 @@
 // The numbers of what `drift` and `held` answer.
+#![tactic(auto)]
+
 ghost use Rattle.std.specs.Prelude.{◌≡◌};
 ghost use Rattle.answers.specs.Answer.{numbers};
 ghost use Rattle.drift_answers.specs.DriftAnswer.{drift_numbers, held_numbers};

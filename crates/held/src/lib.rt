@@ -2,6 +2,8 @@
 //
 // Entry: `held_value`. Refused are a list of more than 1,024 rows (1), a list that is not made of rows with right symbol fields (2), and a product or a
 // total outside i64 (12).
+#![tactic(auto)]
+
 ghost use Rattle.std.specs.Prelude.{◌≡◌, [], map, ◌+◌, ◌*◌, ◌^◌, ◌≤◌, ◌<◌, length};
 ghost use Rattle.wire.specs.declared.layout.Layout.TheVariants.{Sound};
 ghost use Rattle.drift.specs.Rows.{held_in, prices_in, rows_layout};

@@ -6,6 +6,8 @@
 // number of the marks and the count of queries, all answered; at 96 the label, at 160 the second input's first 48 bytes, at 208 a record, at 272 the text, at
 // 304 the first input's first bytes. The first input has so many of the record from that place on, and zeros elsewhere; the second has zeros after its
 // first bytes.
+#![tactic(auto)]
+
 use intents::Reconciling;
 use join::Joining;
 use libc::STDOUT_FILENO;

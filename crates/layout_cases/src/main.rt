@@ -2,6 +2,8 @@
 //
 // It reads `cases.bin`, written by `make`, from the folder it is run in. A case has 400 bytes: two u64, its label's length and the book's; at 16 the label; at 64
 // the book's first bytes. After these the book has zeros.
+#![tactic(auto)]
+
 fn tell_case(case: &[u8]) {
     let mut d = cases::zeros();
     wire::copy(&mut d, 0, wire::from(case, 64));

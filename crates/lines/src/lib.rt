@@ -1,6 +1,8 @@
 // Lines of text in lent bytes: words, decimal numbers, and the names of checkpoints as document 01 prints them.
 //
 // `specs/Lines.antt` has the text of each. What does not fit in the lent bytes is dropped; a caller tests the room for the whole.
+#![tactic(auto)]
+
 ghost use Rattle.std.specs.Prelude.{◌≡◌, ◌+◌, ◌≤◌, ◌<◌, length, drop};
 ghost use Rattle.std.proofs.lemmas.List.Edits.{sets};
 ghost use Rattle.lines.specs.Lines.{decimal, checkpoint_name, field, line};

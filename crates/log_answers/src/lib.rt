@@ -1,4 +1,6 @@
 // The answers about a log: the numbers of what `audit`, `sequence` and `reply` answer.
+#![tactic(auto)]
+
 ghost use Rattle.std.specs.Prelude.{◌≡◌};
 ghost use Rattle.audit.specs.Verdict.{verdict_numbers};
 ghost use Rattle.sequence.specs.Sequence.{highest_numbers, window_numbers};

@@ -1,6 +1,8 @@
 // The answers of `state`, `compare` and `intents` to lent marks, over the writers of `answers`.
 //
 // Lent marks are a record of 176 bytes (crate `marks_record`); one that is none is refused by 2, after 1 of what is lent beside it.
+#![tactic(auto)]
+
 ghost use Rattle.std.specs.Prelude.{◌≡◌};
 ghost use Rattle.marks_record.specs.MarksRecord.{truth_number, marks_ok};
 ghost use Rattle.answers.specs.Answer.{numbers};

@@ -1,6 +1,8 @@
 // Marks in a record of 176 bytes, as they cross the C boundary: written, read and tested.
 //
 // `specs/MarksRecord.antt` has the record's layout.
+#![tactic(auto)]
+
 ghost use Rattle.std.specs.Prelude.{◌≡◌, not, ◌&&◌, ◌<◌, ◌≤◌, length, drop};
 ghost use Rattle.std.proofs.lemmas.List.Edits.{sets};
 ghost use Rattle.wire.specs.Le.{le};

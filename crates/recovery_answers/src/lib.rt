@@ -1,4 +1,6 @@
 // The answers of `recovery`, of `reader` and of the action of `marks`, over the writers of `answers`. Lent marks are refused as in `marks_answers`.
+#![tactic(auto)]
+
 ghost use Rattle.std.specs.Prelude.{◌≡◌, length, replicate};
 ghost use Rattle.std.proofs.lemmas.List.Edits.{sets};
 ghost use Rattle.recovery.specs.Recover.{recovery_number};

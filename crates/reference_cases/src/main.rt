@@ -2,6 +2,8 @@
 // wrong turns. For each a line: what it is, and the numbers that the entry gives, a refusal's number first, 0 for none.
 //
 // It reads `examples.bin`, written by `make`, from the folder it is run in. The reference sequence itself, M1 to M12, is the crate `reference`.
+#![tactic(auto)]
+
 mod desk;
 mod example;
 mod refusals;

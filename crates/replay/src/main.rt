@@ -2,6 +2,8 @@
 // the answers byte for byte with the recorded ones. FORMAT.md has the list's layout.
 //
 // It prints a line for each answer that differs, by the case's number, from 0, and the section's, then how many answers of each sort were compared.
+#![tactic(auto)]
+
 mod actions;
 mod addenda;
 mod joins;

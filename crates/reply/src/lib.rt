@@ -2,6 +2,8 @@
 //
 // `specs/Result.antt` has the desk's result as a value, made of the definitions that validation, recovery and comparison promise; `specs/Text.antt` the
 // text of that value; `specs/Reply.antt` the reply.
+#![tactic(auto)]
+
 mod text;
 
 ghost use Rattle.std.specs.Prelude.{◌≡◌, pos, length, replicate};

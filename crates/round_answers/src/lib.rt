@@ -1,4 +1,6 @@
 // The numbers of what `join` and `rounds` answer.
+#![tactic(auto)]
+
 ghost use Rattle.std.specs.Prelude.{◌≡◌};
 ghost use Rattle.answers.specs.Answer.{numbers, number_alone};
 ghost use Rattle.round_answers.specs.RoundAnswer.{joining_numbers, rounded_numbers};

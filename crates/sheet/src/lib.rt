@@ -2,6 +2,8 @@
 //
 // Nothing here has a `requires`: a reader takes any bytes, and reads zeros past their end. What it reads stands for the broker's answer
 // where `check` answers `Sound`. The contracts cite `specs/Sheet.antt`.
+#![tactic(auto)]
+
 ghost use Rattle.std.specs.Prelude.{◌≡◌, ◌+◌, ◌*◌, drop};
 ghost use Rattle.wire.specs.Table.{every};
 ghost use Rattle.symbol.specs.Symbol.{wide_field_ok};

@@ -3,6 +3,8 @@
 // It reads `cases.bin`, written by `make`, from the folder it is run in. A case has 256 bytes: four u64, which are its label's length, the sheet's length, a
 // place in the sheet and a count of positions; at 32 the label; at 96 the sheet's first bytes, 160 at most. After these the sheet has zeros, but for the symbol
 // UNKNOWN in so many positions from that place on.
+#![tactic(auto)]
+
 use symbol::Symbol;
 
 // Writes the symbol UNKNOWN into each of `n` position records from `at` on.

@@ -1,6 +1,8 @@
 // Equality of two recovered states, each with its book: marks except time, positions and orders in order, texts by bytes.
 //
 // `specs/State.antt` has what is read of a state and the refusals: 1 of either book, then 2 of a book or of lent records.
+#![tactic(auto)]
+
 ghost use Rattle.std.specs.Prelude.{◌≡◌};
 ghost use Rattle.records.specs.Record.{orders_in, positions_in};
 ghost use Rattle.state.specs.State.{same_state, states_equal};

@@ -5,6 +5,8 @@
 //
 // It reads `books.bin`, written by `make`, from the folder it is run in. A book has 64 bytes before it: two u64, its label's length and its own, the caller's time,
 // and at 24 the label.
+#![tactic(auto)]
+
 use libc::STDOUT_FILENO;
 use marks::{Begun, Marks};
 use reader::Stepped;

@@ -2,6 +2,8 @@
 //
 // A symbol is held as one number, its bytes least first, and its length, so that comparing and writing are number work. The contracts
 // cite `specs/Symbol.antt`, which states its bytes. Nothing here has a `requires`.
+#![tactic(auto)]
+
 ghost use Rattle.std.specs.Prelude.{◌≡◌};
 ghost use Rattle.std.proofs.lemmas.List.Edits.{sets};
 ghost use Rattle.symbol.specs.Symbol.{symbol_byte, parsed, unknown_symbol, same_symbol, field_symbol, field_ok, wide_field_ok, wide_field_bytes};

@@ -5,7 +5,7 @@ use mathlib.Core.Path.{◌≡◌, refl, sym, ap, ◌∙◌}
 use mathlib.Core.List.{List, [], ◌∷◌, ◌++◌, append_assoc, append-nil}
 use native.Mathlib.Nat.{sub-zero, zero-sub, suc-sub-suc, sub-add-eq, zero-add, add-zero, suc-add, add-suc, mul-suc, mul-zero, le_of_suc-le-suc, not-suc-le-zero}
 use native.Mathlib.Omega.{arith}
-use lib.ListN.{length, take, drop, get_or, set, replicate, length-append, length-drop, length-set, length-replicate}
+use lib.ListN.{length, drop, get_or, set, replicate, length-append, length-drop, length-set, length-replicate}
 use lib.Seq.{sets, sets-eq, take_at, drop_at, drop-append-le, drop-append-add, drop-drop}
 use Rattle.wire.specs.Table.{records, encoded, padded}
 

@@ -1,6 +1,6 @@
 -- A signed number and its bits, at any width: what the needs of `signed` and `unsigned` ask.
 -- Assumes nothing.
-use Prim.Native.Nat.{ℕ, zero, suc, ◌+◌, ◌*◌, ◌-◌, ◌^◌, ◌≤◌, ◌<◌}
+use Prim.Native.Nat.{ℕ, suc, ◌-◌, ◌^◌, ◌≤◌, ◌<◌}
 use mathlib.Core.Path.{◌≡◌, refl, sym, ap, subst, ◌∙◌}
 use mathlib.Core.Bool.{Bool, true, false}
 use native.Mathlib.Omega.{arith}
@@ -9,7 +9,7 @@ use lib.IntN.{ℤ, pos, negsuc, nat_abs, ◌+ℤ◌, ◌-ℤ◌}
 use lib.Signed.{le_z, non_neg}
 use mir.Syntax.{Width}
 use mir.Val.{Fits, SFits, bits, hbits, to_z, of_z}
-use mir.ValLaws.{to_z_pos, to_z-of_z, of_z_fits, pow-bits, half_full}
+use mir.ValLaws.{to_z_pos, to_z-of_z, pow-bits, half_full}
 use borrow.Author.Tests.{lt-ltb, le-ltb, le-leb}
 use lib.Pow.{pow_pos}
 

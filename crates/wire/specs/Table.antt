@@ -1,6 +1,6 @@
 -- Tables: records of w bytes each, one after the other, at the front of a list of bytes.
 -- Assumes nothing.
-use Rattle.std.specs.Prelude.{ℕ, zero, suc, ◌-◌, List, [], ◌∷◌, ◌++◌, Bool, true, false, ◌&&◌, length, drop, replicate}
+use Rattle.std.specs.Prelude.{ℕ, zero, suc, ◌-◌, List, [], ◌∷◌, ◌++◌, Bool, true, ◌&&◌, length, drop, replicate}
 
 -- each of n records passes the test
 unfoldable pub every : (List ℕ → Bool) → ℕ → ℕ → List ℕ → Bool

@@ -3,6 +3,8 @@
 // Reading past the end gives zeros, and what would be written past the end is dropped. Only `rest`, the `whole_` readers and `put_whole_u64` have
 // a `requires`: their bytes are known by the caller to be there, so they have no test. The contracts cite `specs/Le.antt`; `specs/Table.antt` and the
 // laws of `proofs/` are for the crates that read and write tables of records.
+#![tactic(auto)]
+
 pub mod layout;
 
 ghost use Rattle.std.specs.Prelude.{◌≡◌, ◌+◌, ◌*◌, ◌≤◌, length, take, drop, replicate};

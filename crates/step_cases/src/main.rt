@@ -14,7 +14,7 @@ use recovery::recover;
 use recovery::recover::Recovery;
 
 // How far a walk came: the marks, the last step's answer, and the number of the reader's next event.
-#[derive(Drop)]
+#[derive(Clone, Copy)]
 struct Walked {
     marks: Marks,
     answer: Stepped,

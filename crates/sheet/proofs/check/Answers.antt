@@ -1,5 +1,4 @@
 -- `sheet::check`: the tests, in the order of the refusals.
-use borrow.Author.Rules.{rules}
 use mathlib.Core.Path.{ap, ◌∙◌}
 use native.Mathlib.Omega.{arith}
 use lib.ListN.{length}

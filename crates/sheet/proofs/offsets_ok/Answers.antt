@@ -1,5 +1,4 @@
 -- `sheet::offsets_ok`: the tests, one after the other.
-use borrow.Author.Rules.{rules}
 use Prim.Native.Nat.{◌+◌, ◌*◌}
 use borrow.Author.Tests.{eq-eqb, ne_eqb}
 use Rattle.sheet.specs.Sheet.{offsets_ok}

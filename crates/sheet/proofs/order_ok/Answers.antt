@@ -1,5 +1,4 @@
 -- `sheet::order_ok`: the state and the zeros after it, read as one number.
-use borrow.Author.Rules.{rules}
 use lib.ListN.{drop}
 use Rattle.sheet.proofs.Lists.{state_number_lem}
 use Rattle.sheet.proofs.order_ok.Goals as goal

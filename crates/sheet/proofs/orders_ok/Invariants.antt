@@ -1,7 +1,5 @@
 -- `sheet::orders_ok`: up to `at` each record passes, so what is left decides.
-use mathlib.Core.Path.{refl}
-use borrow.Author.Rules.{rules}
-use Rattle.wire.proofs.Table.{Left, left_fails, left_goes, left_none}
+use Rattle.wire.proofs.Table.{Left}
 use Rattle.sheet.specs.Sheet.{broker_order_ok}
 use Rattle.sheet.proofs.orders_ok.Given as goal
 

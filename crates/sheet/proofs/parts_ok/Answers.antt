@@ -1,8 +1,6 @@
 -- `sheet::parts_ok`: the header's test, then that of each table.
-use borrow.Author.Rules.{rules}
 use mathlib.Core.Path.{◌≡◌}
 use mathlib.Core.Bool.{true, false}
-use borrow.Author.Tests.{not-true, not-false}
 use Rattle.wire.specs.Table.{every}
 use Rattle.sheet.specs.Sheet.{order_count, orders_in, broker_order_ok, header_ok, parts_ok}
 use Rattle.sheet.proofs.parts_ok.Goals as goal
@@ -11,7 +9,7 @@ pub returns-then-not-header_ok : goal.returns-then-not-header_ok
 unfolding parts_ok
 returns-then-not-header_ok c =
     let s = c.args.sheet.now in
-    let n = not-true c.header_ok.result c.if-not-header_ok.true in
+    let n = c.if-not-header_ok.true in
     let h : header_ok s ≡ false = cc in
     rw h
 
@@ -19,8 +17,8 @@ pub returns-then-not-orders_ok : goal.returns-then-not-orders_ok
 unfolding parts_ok
 returns-then-not-orders_ok c =
     let s = c.args.sheet.now in
-    let n = not-false c.header_ok.result c.if-not-header_ok.false in
-    let m = not-true c.orders_ok.result c.if-not-orders_ok.true in
+    let n = c.if-not-header_ok.false in
+    let m = c.if-not-orders_ok.true in
     let h : header_ok s ≡ true = cc in
     let o : every broker_order_ok 24 (order_count s) (orders_in s) ≡ false = cc in
     rw (h, o)
@@ -29,8 +27,8 @@ pub returns : goal.returns
 unfolding parts_ok
 returns c =
     let s = c.args.sheet.now in
-    let n = not-false c.header_ok.result c.if-not-header_ok.false in
-    let m = not-false c.orders_ok.result c.if-not-orders_ok.false in
+    let n = c.if-not-header_ok.false in
+    let m = c.if-not-orders_ok.false in
     let h : header_ok s ≡ true = cc in
     let o : every broker_order_ok 24 (order_count s) (orders_in s) ≡ true = cc in
     rw (h, o) (cc)

@@ -1,7 +1,5 @@
 -- `sheet::positions_ok`: up to `at` each record passes, so what is left decides.
-use mathlib.Core.Path.{refl, ap, ◌∙◌}
-use borrow.Author.Rules.{rules}
-use Rattle.wire.proofs.Table.{Left, left_fails, left_goes, left_none}
+use Rattle.wire.proofs.Table.{Left}
 use Rattle.symbol.specs.Symbol.{wide_field_ok}
 use Rattle.sheet.proofs.positions_ok.Given as goal
 

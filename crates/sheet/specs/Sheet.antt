@@ -52,7 +52,7 @@ broker_order_of s =
 unfoldable pub sheet_orders : List ℕ → List BrokerOrderStatus
 sheet_orders s = records broker_order_of 24 (order_count s) (orders_in s)
 
--- ---- a position: a symbol field of 16 bytes, which `wideFieldOk` tests, and i64 quantity
+-- ---- a position: a symbol field of 16 bytes, which `wide_field_ok` tests, and i64 quantity
 abbrev pub broker_position_of : List ℕ → BrokerPosition
 broker_position_of s = record { symbol = field_symbol s; quantity = to_z w64 (le 8 (drop 16 s)) }
 

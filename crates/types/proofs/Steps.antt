@@ -1,4 +1,4 @@
--- The steps of the definition after the multiplication, as whole numbers: `inRange (round_away x)` is decided by the sign and the rounded size of x (`of-value`).
+-- The steps of the definition after the multiplication, as whole numbers: `in_range (round_away x)` is decided by the sign and the rounded size of x (`of_value`).
 -- Assumes nothing.
 use mathlib.Core.Path.{◌≡◌, refl, sym, ap, ◌∙◌, subst}
 use mathlib.Core.Bool.{Bool, true, false, ◌&&◌, ◌||◌}

@@ -1,4 +1,4 @@
--- `float::bits::is_finite` meets its contract: x is the value of its own bits, and `finite-test` is the test of a pattern. Assumes nothing.
+-- `float::bits::is_finite` meets its contract: x is the value of its own bits, and `finite_test` is the test of a pattern. Assumes nothing.
 -- an f64 is a value that the format holds
 use Rattle.std.proofs.Common.{T, sym, ap, ◌∙◌, subst}
 use lib.Ieee.{binary64, of_bits, fits}

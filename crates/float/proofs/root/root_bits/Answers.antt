@@ -1,4 +1,4 @@
--- `float::root::root_bits` meets its contract: `root-at` for a root that is moved up and for one that is not. Assumes nothing.
+-- `float::root::root_bits` meets its contract: `root_at` for a root that is moved up and for one that is not. Assumes nothing.
 use Rattle.std.proofs.Common.{ℕ, ◌+◌, ◌-◌, ◌*◌, ◌/◌, true, false, ap, ◌∙◌, add-one, le-ltb, lt-ltb}
 use lib.Ieee.{binary64, of_bits}
 use Rattle.float.proofs.RootPack.{root_at}

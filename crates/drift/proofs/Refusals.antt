@@ -8,7 +8,6 @@ use lib.IntN.{ℤ}
 use lib.ListN.{replicate}
 use Rattle.wire.specs.Layout.{both_of}
 use Rattle.wire.proofs.Layouts.{both_sound}
-use Rattle.wire.specs.declared.layout.Layout.{Layout}
 use Rattle.wire.specs.declared.layout.Layout.TheVariants as Lay
 use Rattle.drift.specs.Rows.{held_in, targets_in, prices_in, rows_layout}
 use Rattle.drift.specs.Symbols.{all_where}

@@ -4,7 +4,7 @@
 #   reply      prints the desk's reply
 #   restart    validates, recovers, compares, reconciles and joins, and prints what each call gave
 # Without either, both. Without BOOK and SHEET, on the reference unit, and what is printed is compared with what is expected.
-# The library is the one in EXPORTS_DIR, or it is proved and built (`rt staticlib exports`).
+# The library is the one in EXPORTS_DIR, or it is proved and built (`rt lib` in crates/exports).
 
 usage() {
     sed -n 's/^# \(run \[.*\)/usage: \1/p' "$top/examples/run.sh" >&2
@@ -18,10 +18,11 @@ library() {
         return
     fi
     mkdir -p "$top/target"
-    echo "rt staticlib exports: proves the library; some 9 to 18 minutes of processor time the first time, then seconds" >&2
-    (cd "$top" && rt staticlib exports 2>&1) | tee "$top/target/staticlib.log" | awk '/^rt: .* proved \(/ && !/unchanged/ { print; fflush() }' >&2 ||
+    echo "rt lib: proves the library; some 9 to 18 minutes of processor time the first time, then seconds" >&2
+    (cd "$top/crates/exports" && rt lib 2>&1) | tee "$top/target/staticlib.log" |
+        awk '/^crate / { name = $2 } /^logic=proved / { print name, $0; fflush() }' >&2 ||
         { tail -5 "$top/target/staticlib.log" >&2; exit 2; }
-    echo "$top/target/staticlib"
+    echo "$top/crates/exports/out"
 }
 
 # examples LANGUAGE [reply | restart] [BOOK SHEET]

@@ -1,4 +1,4 @@
-/* The recovery desk as a C library: link libexports.a (`rt staticlib exports`). x86-64 Linux.
+/* The recovery desk as a C library: link libexports.a (`rt lib` in crates/exports). x86-64 Linux.
  *
  * Whatever the bytes, no call keeps a pointer, allocates, prints or fails to return. The library has no state, so calls may run on several threads at once.
  *

@@ -14,7 +14,7 @@ pub mod fixed_answer;
 use wire::layout::Layout;
 
 // A refusal's number and the two numbers of an answer.
-#[derive(Drop)]
+#[derive(Clone, Copy)]
 pub struct Numbers {
     pub refusal: u32,
     pub a: u64,

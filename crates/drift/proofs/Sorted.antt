@@ -1,4 +1,4 @@
--- The sort is one: what `symbolsOf` gives is strictly in order by `before`, so without repeats, and has the same symbols as the list. About no function.
+-- The sort is one: what `symbols_of` gives is strictly in order by `before`, so without repeats, and has the same symbols as the list. About no function.
 -- Assumes nothing.
 use Prim.Native.Nat.{ℕ, ◌<◌}
 use mathlib.Core.Path.{◌≡◌, refl, sym, ap, subst, ◌∙◌}

@@ -10,7 +10,7 @@ use crate::words::{key_of, len_of};
 use float::bits::{nearest_i64, saturating_i64, to_bits};
 use records::words::put_four;
 
-#[derive(Drop)]
+#[derive(Clone, Copy)]
 pub struct ReconcileEntry {
     pub target_weight: f64,
     pub actual_weight: f64,
@@ -21,14 +21,14 @@ pub struct ReconcileEntry {
 }
 
 // A weight, or that the product in it is outside i64.
-#[derive(Drop)]
+#[derive(Clone, Copy)]
 pub enum Weight {
     Is(f64),
     Over,
 }
 
 // An entry, or that refusal 12 is due.
-#[derive(Drop)]
+#[derive(Clone, Copy)]
 pub enum Made {
     Is(ReconcileEntry),
     OutOfRange,

@@ -10,7 +10,7 @@ use wire::layout;
 use wire::layout::Layout;
 
 // What `reconcile` answers: the count of entries and the tracking error in percent, or a refusal.
-#[derive(Drop)]
+#[derive(Clone, Copy)]
 pub enum Drift {
     Done(u32, f64),
     // Refusal 1.

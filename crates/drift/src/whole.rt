@@ -3,7 +3,7 @@ ghost use Rattle.std.specs.Prelude.{◌≡◌, true, pos, ◌-ℤ◌, ◌*ℤ◌
 ghost use Rattle.std.specs.Int.Signed.{lt_z};
 ghost use Rattle.drift.specs.Code.{whole_of};
 
-#[derive(Drop)]
+#[derive(Clone, Copy)]
 pub enum Whole {
     Is(i64),
     Over,

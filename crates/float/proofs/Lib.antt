@@ -2,7 +2,6 @@ pub mod Patterns
 pub mod Decode
 pub mod Saturate
 pub mod Unique
-pub mod Whole
 pub mod RootDigits
 pub mod RootLaw
 pub mod RootPack

@@ -1,5 +1,5 @@
--- The definition of the square root at a number whose whole root is known: `root-of` gives what `nearestRoot` keeps from the digits of a root and what is left
--- above their square, and `sqrt-value` and `in-form` bring a float into its form. Assumes nothing.
+-- The definition of the square root at a number whose whole root is known: `root_of` gives what `nearest_root` keeps from the digits of a root and what is left
+-- above their square, and `sqrt_value` and `in_form` bring a float into its form. Assumes nothing.
 use Rattle.std.proofs.Common.{◌≡◌, ℕ, zero, suc, ◌+◌, ◌-◌, ◌*◌, ◌/◌, ◌%◌, ◌^◌, ◌<◌, ◌≤◌, Bool, true, false, cond, not, T, ltb, leb, ℤ, sym, refl, ap, ◌∙◌, subst, zero-le, le_trans, le_of_eq, le_refl, lt_of_lt_of_le, lt_of_le_of_lt, mul-le-mul_right, mul_assoc, mul-le-mul, mul-lt-mul_of_pos_right, mul-pos, lt_of_not-le, not-le_of_lt, mul-div_cancel, mul_left_comm, add-one, arith, eqb→eq, leb→le, pow_pos, pow_mono, pow-add, ltb-false, ltb-true, leb-false, leb-true}
 use Prim.Native.Nat.{compare, Ordering}
 use native.Mathlib.Nat.{div-eq_of_lt-le}
@@ -179,7 +179,7 @@ sqrt_value nan a c A C v = absurd v
 sqrt_value (inf t) a c A C v = absurd v
 sqrt_value (fin t m e) a c A C v = sqrt_fin t m e a c v.0 A C v.1
 
--- ---- from d * 2 ^ p to the form that `root-of` takes, with l for 1074 and g for 2 ^ 1074
+-- ---- from d * 2 ^ p to the form that `root_of` takes, with l for 1074 and g for 2 ^ 1074
 pub cut : (a g : ℕ) → 0 < g → a * (g * g) / g ≡ a * g
 cut a g G = ap (λ (n : ℕ). n / g) (sym (mul_assoc a g g)) ∙ mul-div_cancel (a * g) G
 

@@ -1,5 +1,5 @@
 -- The definition of the square root is IEEE 754's: no value of the format is nearer to the root than what it keeps (`near`), and the root of a positive finite
--- f64 is that value, which binary64 holds (`sqrt-near`, and by the bits `bits-near`). What it keeps is the root's whole part in steps of 2 ^ k or the next step up, and every value of the
+-- f64 is that value, which binary64 holds (`sqrt_near`, and by the bits `bits_near`). What it keeps is the root's whole part in steps of 2 ^ k or the next step up, and every value of the
 -- format that is larger than the first is at least the second (`next_up`). Assumes nothing.
 use Rattle.std.proofs.Common.{◌≡◌, ℕ, zero, suc, ◌+◌, ◌-◌, ◌*◌, ◌/◌, ◌%◌, ◌^◌, ◌<◌, ◌≤◌, false, not, T, eqb, leb, sym, refl, ap, ◌∙◌, subst, le_trans, le_of_eq, lt_of_lt_of_le, le_of_suc-le-suc, lt_of_le_of_lt, le_of_lt, mul-le-mul_right, mul_assoc, div-lt_iff_lt-mul, mul-le-mul, mul-le-mul_left, mul-lt-mul_of_pos_right, mul-pos, lt_of_not-le, le-div_iff_mul-le, not-le_of_lt, div-mul-le_self, add-one, arith, lit<, eqb→eq, leb→le, pow_pos, pow_mono, pow-add}
 use Prim.Native.Nat.{compare, Ordering}

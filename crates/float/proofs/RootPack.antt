@@ -1,4 +1,4 @@
--- The bits of a square root: `packed` says which value k * 2 ^ 52 + q is the pattern of, and `root-at` is what `root_bits` returns. Assumes nothing.
+-- The bits of a square root: `packed` says which value k * 2 ^ 52 + q is the pattern of, and `root_at` is what `root_bits` returns. Assumes nothing.
 use Rattle.std.proofs.Common.{◌≡◌, ℕ, suc, ◌+◌, ◌-◌, ◌*◌, ◌/◌, ◌%◌, ◌^◌, ◌<◌, ◌≤◌, Bool, true, false, cond, ltb, leb, ◌⊎◌, sym, refl, ap, ◌∙◌, subst, inl, inr, le_trans, le_of_eq, lt_of_lt_of_le, lt_of_le_of_lt, mul-le-mul_right, mod-eq_of_lt, mul-le-mul, eq-or-lt_of_le, mul-le-mul_left, mul-lt-mul_of_pos_right, mul-pos, lt_of_not-le, mul-one, not-le_of_lt, arith, lit<, lit≤, pow_pos, pow_mono, pow-add}
 use lib.Count.{count_leading_zeros, leading_top}
 use lib.Ieee.{binary64, of_bits, units}

@@ -1,4 +1,4 @@
--- What src/bits.rt promises beyond lib.Ieee's own definitions, and the ends of i64's range. Definitions only.
+-- What src/bits.rt promises beyond Rattle.std.specs.Float.Ieee's own definitions, and the ends of i64's range. Definitions only.
 use Rattle.std.specs.Prelude.{Bool, true, false, pos, Float}
 use Rattle.std.specs.Float.{nan, inf, fin}
 

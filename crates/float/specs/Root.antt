@@ -1,4 +1,4 @@
--- IEEE 754's square root, written as lib.Ieee's `round` is. `proofs/RootNear.antt` shows that no value of the format is nearer to the root (`Nearest`, in
+-- IEEE 754's square root, written as Rattle.std.specs.Float.Ieee's `round` is. `proofs/RootNear.antt` shows that no value of the format is nearer to the root (`Nearest`, in
 -- Nearest.antt) and that binary64 holds it. Definitions only.
 use Rattle.std.specs.Prelude.{ℕ, zero, suc, ◌+◌, ◌-◌, ◌*◌, ◌/◌, ◌^◌, true, false, cond, nat_le, Float}
 use Prim.Native.Nat.{compare}

@@ -3,7 +3,7 @@ ghost use Rattle.std.specs.Prelude.{◌%◌, ◌<◌};
 ghost use Rattle.float.specs.Parts.{Parted};
 
 // digits * 2^power times 2^-1074.
-#[derive(Drop)]
+#[derive(Clone, Copy)]
 pub struct Parts {
     pub digits: u64,
     pub power: u64,

@@ -11,7 +11,7 @@ use crate::bits::{from_bits, to_bits};
 use crate::parts::parts_of;
 
 // The digits of a root so far, and what is left of the number above their square.
-#[derive(Drop)]
+#[derive(Clone, Copy)]
 struct Digits {
     root: u64,
     left: u64,

@@ -18,7 +18,7 @@ use wire::layout;
 use wire::layout::Layout;
 
 // What `held_value` answers: the value, or a refusal.
-#[derive(Drop)]
+#[derive(Clone, Copy)]
 pub enum Held {
     Value(i64),
     // Refusal 1.

@@ -8,14 +8,14 @@ ghost use Rattle.intents.specs.Turns.{queried_at, Turned};
 use crate::Chosen;
 
 // Whether a query was answered, and the place after the queries taken.
-#[derive(Drop)]
+#[derive(Clone, Copy)]
 pub struct Asked {
     pub answered: bool,
     pub next: usize,
 }
 
 // What came of an order: it is an intent whose query was answered or was not, with the place of the next query; or it is no intent.
-#[derive(Drop)]
+#[derive(Clone, Copy)]
 pub enum Turn {
     Reached(usize),
     Missed(usize),

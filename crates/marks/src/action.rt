@@ -7,7 +7,7 @@ ghost use Rattle.marks.specs.Action.{action_of, queried_action, lent_action};
 use crate::Marks;
 use wire::layout::Layout;
 
-#[derive(Drop)]
+#[derive(Clone, Copy)]
 pub enum RecoveryAction {
     Restart,
     Resume,
@@ -15,7 +15,7 @@ pub enum RecoveryAction {
 }
 
 // The action, or refusal 2.
-#[derive(Drop)]
+#[derive(Clone, Copy)]
 pub enum Action {
     Is(RecoveryAction),
     Broken,

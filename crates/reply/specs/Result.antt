@@ -64,7 +64,7 @@ unfolding compared_result
 book_result room time book sheet =
     by_recovery room (recovery book time room room) (book_verdict book) (orders_out book time room room) (positions_out book time room room) sheet
 
--- ---- the desk's result at a caller's time; no line of its text depends on that (`reply-any-time`, crate `sound_reply`), and the desk's is 0
+-- ---- the desk's result at a caller's time; no line of its text depends on that (`reply_any_time`, crate `sound_reply`), and the desk's is 0
 abbrev pub desk_result_at : ℤ → List ℕ → List ℕ → DeskResult
 desk_result_at time book sheet = unless_refused (files_layout book sheet) (book_result 65536 time book sheet)
 

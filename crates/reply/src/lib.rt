@@ -20,14 +20,14 @@ use recovery::recover::{Recovered, Recovery};
 use wire::layout::Layout;
 
 // The length of the reply, or refusal 3.
-#[derive(Drop)]
+#[derive(Clone, Copy)]
 pub enum Replied {
     Done(usize),
     NoRoom,
 }
 
 // A desk result whose report is in lent bytes: a refusal's number; or the verdict, the recovery and how many records the report has.
-#[derive(Drop)]
+#[derive(Clone, Copy)]
 pub enum LentResult {
     Refused(u64),
     Told(Verdict, Recovered, usize),

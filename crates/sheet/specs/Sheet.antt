@@ -1,6 +1,6 @@
 -- The broker's sheet: its header, its two tables, and refusals 1 and 2. Each definition reads the front of a list of bytes.
 -- Assumes nothing.
-use Rattle.std.specs.Prelude.{ℕ, ◌+◌, ◌*◌, List, Bool, true, false, ◌&&◌, ◌||◌, eqb, leb, ltb, length, drop}
+use Rattle.std.specs.Prelude.{ℕ, ◌+◌, ◌*◌, List, Bool, ◌&&◌, ◌||◌, eqb, leb, ltb, length, drop}
 use Rattle.std.specs.Int.{w64}
 use Rattle.std.proofs.Common.{to_z}
 use Rattle.wire.specs.Le.{le}
@@ -52,7 +52,7 @@ broker_order_of s =
 unfoldable pub sheet_orders : List ℕ → List BrokerOrderStatus
 sheet_orders s = records broker_order_of 24 (order_count s) (orders_in s)
 
--- ---- a position: a symbol field of 16 bytes, which `wideFieldOk` tests, and i64 quantity
+-- ---- a position: a symbol field of 16 bytes, which `wide_field_ok` tests, and i64 quantity
 abbrev pub broker_position_of : List ℕ → BrokerPosition
 broker_position_of s = record { symbol = field_symbol s; quantity = to_z w64 (le 8 (drop 16 s)) }
 

@@ -14,14 +14,14 @@ use symbol::Symbol;
 use types::order::{NumberedState, OrderId, OrderState};
 use wire::layout::Layout;
 
-#[derive(Drop)]
+#[derive(Clone, Copy)]
 pub struct BrokerOrderStatus {
     pub id: OrderId,
     pub status: OrderState,
     pub remaining: u64,
 }
 
-#[derive(Drop)]
+#[derive(Clone, Copy)]
 pub struct BrokerPosition {
     pub symbol: Symbol,
     pub quantity: i64,

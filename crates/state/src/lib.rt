@@ -16,7 +16,7 @@ mod orders;
 mod run;
 
 // Whether the states are equal, or refusals 1 and 2.
-#[derive(Drop)]
+#[derive(Clone, Copy)]
 pub enum Equality {
     Is(bool),
     Oversize,

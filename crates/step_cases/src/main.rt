@@ -15,7 +15,7 @@ use std::io;
 use std::io::Read;
 
 // How far a walk came: the marks, the last step's answer, and the number of the reader's next event.
-#[derive(Drop)]
+#[derive(Clone, Copy)]
 struct Walked {
     marks: Marks,
     answer: Stepped,

@@ -53,7 +53,7 @@ bytes_before (a ∷ s) (b ∷ t) = ltb a b || (eqb a b && bytes_before s t)
 abbrev pub before : Symbol → Symbol → Bool
 before y z = bytes_before (bytes_of symbol_width y.word) (bytes_of symbol_width z.word)
 
--- A symbol field: the bytes, zeros up to the width, and the length's byte. `fieldOk` is the test of it.
+-- A symbol field: the bytes, zeros up to the width, and the length's byte. `field_ok` is the test of it.
 abbrev pub field_symbol : List ℕ → Symbol
 field_symbol s = record { word = le symbol_width s; len = le 1 (drop symbol_width s) }
 

@@ -8,13 +8,13 @@ ghost use Rattle.std.specs.Prelude.{◌≡◌};
 ghost use Rattle.std.proofs.lemmas.List.Edits.{sets};
 ghost use Rattle.symbol.specs.Symbol.{symbol_byte, parsed, unknown_symbol, same_symbol, field_symbol, field_ok, wide_field_ok, wide_field_bytes};
 
-#[derive(Drop)]
+#[derive(Clone, Copy)]
 pub struct Symbol {
     pub word: u64,
     pub len: u8,
 }
 
-#[derive(Drop)]
+#[derive(Clone, Copy)]
 pub enum Parsed {
     Is(Symbol),
     Nothing,

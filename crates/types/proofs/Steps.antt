@@ -1,4 +1,4 @@
--- The steps of the definition after the multiplication, as whole numbers: `inRange (round_away x)` is decided by the sign and the rounded size of x (`of-value`).
+-- The steps of the definition after the multiplication, as whole numbers: `in_range (round_away x)` is decided by the sign and the rounded size of x (`of_value`).
 -- Assumes nothing.
 use mathlib.Core.Path.{◌≡◌, refl, sym, ap, ◌∙◌, subst}
 use mathlib.Core.Bool.{Bool, true, false, ◌&&◌, ◌||◌}
@@ -14,7 +14,6 @@ use lib.Ieee.Exact.{HasValue, round_exact}
 use lib.Ieee.Back.{round_whole}
 use borrow.Author.Tests.{ltb-true, ltb-false, leb-true, leb-false, lt-ltb, le-ltb, le-leb, lt-leb, eq-eqb, ne_eqb}
 use Rattle.float.specs.Bits.{is_finite}
-use Rattle.float.proofs.Whole.{fits_small, whole_exact}
 use Rattle.types.specs.Fixed.{away, value_if, round_away, in_range, lowest, past}
 use Rattle.types.specs.declared.fixed.Fixed.{Fixed}
 use Rattle.types.specs.declared.fixed.Fixed.TheVariants.{Value, OutOfRange}
@@ -104,6 +103,15 @@ range (fin true m e) s n v = neg_range m e n v.1 ∙ ap (λ (s : Bool). ranged s
 range (fin false m e) s n v = pos_range m e n v.1 ∙ ap (λ (s : Bool). ranged s n) v.0
 
 -- ---- the rounded size is a whole number that the format holds
+shifted_up : (m k : ℕ) → m * 2 ^ k * 2 ^ 1074 ≡ m * 2 ^ (k + 1074) * 1
+shifted_up m k = mul_assoc m (2 ^ k) (2 ^ 1074) ∙ ap (λ (x : ℕ). m * x) (sym (pow-add 2 k 1074)) ∙ sym (mul-one (m * 2 ^ (k + 1074)))
+
+in_units : (m k : ℕ) → m * 2 ^ k < 2 ^ 1024 → m * 2 ^ (k + 1074) < 2 ^ 2098
+in_units m k h = subst (λ (x : ℕ). x < 2 ^ 2098) (shifted_up m k ∙ mul-one (m * 2 ^ (k + 1074))) (lt_of_lt_of_le (mul-lt-mul_of_pos_right h (pow_pos 1074)) (lit≤ {m = 2 ^ 1024 * 2 ^ 1074} {n = 2 ^ 2098} tt))
+
+whole_exact : (s : Bool) (m k : ℕ) → m < 2 ^ 53 → m * 2 ^ k < 2 ^ 1024 → HasValue (round binary64 s (m * 2 ^ k) 1) s (m * 2 ^ k) 1
+whole_exact s m k a b = round_exact binary64 s (m * 2 ^ k) 1 m (k + 1074) (lit< tt) a (in_units m k b) (shifted_up m k)
+
 away_one : (n : ℕ) → away n 1 ≡ n
 away_one n = ap (λ (x : ℕ). away x 1) (sym (mul-one n)) ∙ away_whole n 1 (lit< tt)
 
@@ -115,8 +123,24 @@ small m d D h =
     pos_two : (d : ℕ) → 0 < d → 0 < 2 * d
     pos_two d h = omega arith
 
+-- what `fits` says
+fits_small : (s : Bool) (m : ℕ) (e : ℤ) → T (fits binary64 (fin s m e)) → m < 2 ^ 53
+unfolding fits
+fits_small s zero e t = lit< tt
+fits_small s (suc m) e t =
+    let a = eqb (suc m % 2) 1 in
+    let b = ltb (suc m) (2 ^ 53) in
+    let c = leb (down e) (2 ^ 1074) in
+    let d = ltb (suc m * up e) (2 ^ 1024 * down e) in
+    ltb→lt (suc m) (2 ^ 53) (and_r a b (and_l (a && b) c (and_l (a && b && c) d t)))
+
+fits_range : (s : Bool) (m k : ℕ) → T (fits binary64 (fin s m (pos k))) → m * 2 ^ k < 2 ^ 1024
+unfolding fits
+fits_range s zero k t = subst (λ (x : ℕ). x < 2 ^ 1024) (sym (zero-mul (2 ^ k))) (lit< tt)
+fits_range s (suc m) k t = subst (λ (x : ℕ). suc m * 2 ^ k < x) (mul-one (2 ^ 1024)) (ltb→lt (suc m * 2 ^ k) (2 ^ 1024 * 1) (and_r (eqb (suc m % 2) 1 && ltb (suc m) (2 ^ 53) && leb 1 (2 ^ 1074)) (ltb (suc m * 2 ^ k) (2 ^ 1024 * 1)) t))
+
 away_exact : (s : Bool) (m : ℕ) (e : ℤ) → T (fits binary64 (fin s m e)) → HasValue (round binary64 s (away (m * up e) (down e)) 1) s (away (m * up e) (down e)) 1
-away_exact s m (pos k) t = subst (λ (n : ℕ). HasValue (round binary64 s n 1) s n 1) (sym (away_one (m * 2 ^ k))) (whole_exact s s m k t)
+away_exact s m (pos k) t = subst (λ (n : ℕ). HasValue (round binary64 s n 1) s n 1) (sym (away_one (m * 2 ^ k))) (whole_exact s m k (fits_small s m (pos k) t) (fits_range s m k t))
 away_exact s m (negsuc k) t = round_whole binary64 s (away (m * 1) (2 ^ suc k)) (small m (2 ^ suc k) (pow_pos (suc k)) (fits_small s m (negsuc k) t))
 
 -- ---- both steps

@@ -9,7 +9,7 @@ use float::bits::{is_finite, to_bits};
 use float::parts::parts_of;
 
 // What a conversion comes to: the number, or refusal 9 or 10.
-#[derive(Drop)]
+#[derive(Clone, Copy)]
 pub enum Fixed {
     Value(i64),
     NotFinite,

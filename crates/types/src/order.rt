@@ -3,7 +3,7 @@ ghost use Rattle.std.specs.Prelude.{◌≡◌, eqb};
 ghost use Rattle.types.specs.Order.{sign_extended, truncated, state_of, state_number};
 
 // The number of an order at the broker, apart from the i32 ibkr_id of a recovered order.
-#[derive(Drop)]
+#[derive(Clone, Copy)]
 pub struct OrderId(pub u64);
 
 impl OrderId {
@@ -30,7 +30,7 @@ pub fn truncated_i32(n: i64) -> i32
 }
 
 // The state of an order at the broker. A sheet numbers them from 0 in this order.
-#[derive(Drop)]
+#[derive(Clone, Copy)]
 pub enum OrderState {
     Pending,
     Submitted,
@@ -41,7 +41,7 @@ pub enum OrderState {
 }
 
 // What a number names: a state, or none from 6 on.
-#[derive(Drop)]
+#[derive(Clone, Copy)]
 pub enum NumberedState {
     Is(OrderState),
     Unknown,

@@ -2,7 +2,7 @@
 ghost use Rattle.std.specs.Prelude.{◌≡◌};
 ghost use Rattle.wire.specs.Layout.{both_of, sound_if};
 
-#[derive(Drop)]
+#[derive(Clone, Copy)]
 pub enum Layout {
     // Neither.
     Sound,

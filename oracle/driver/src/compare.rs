@@ -14,7 +14,6 @@ use crate::entries::{
     WINDOW,
 };
 use crate::question::{Fault, Question, Tally, FAULTS};
-use crate::quick;
 use crate::smallest::{print, smallest};
 
 /// Copies of a book and of a sheet that are altered here, for each case of the kind `damaged`.
@@ -271,17 +270,6 @@ pub fn questions(kind: &str, seed: u64, number: u64) -> Result<Vec<Question>, St
     }
 }
 
-thread_local! {
-    /// The entries that document 01's reading alone answers.
-    static READING: Vec<Entry> = quick::entries();
-}
-
-/// Whether document 01's reading gives another answer than the judge, which asks the original.
-fn readings_differ(question: &Question, due: &Due) -> bool {
-    let said = READING.with(|all| all.iter().find(|e| e.name == question.entry.name).map(|e| (e.due)(&question.inputs, &question.numbers)));
-    due.refusal != UNJUDGED && said.is_some_and(|said| said != *due)
-}
-
 /// The first question of a case on which the two disagree.
 fn disagreement(kind: &str, seed: u64, number: u64, fault: Option<Fault>, counts: &mut Counts) -> Result<Option<Question>, String> {
     let questions = questions(kind, seed, number)?;
@@ -290,9 +278,6 @@ fn disagreement(kind: &str, seed: u64, number: u64, fault: Option<Fault>, counts
         let due = question.ample();
         if question.differs(&due, fault, &mut counts.tally).is_some() {
             return Ok(Some(question));
-        }
-        if fault.is_none() && readings_differ(&question, &due) {
-            return Err(format!("{kind} {seed} {number}: document 01's reading and the original differ on {}", question.entry.name));
         }
         counts.count(question.entry, &due);
     }

@@ -17,7 +17,7 @@ const USAGE: &str = "usage: compare KIND SEED COUNT         compares COUNT cases
        compare time ROW INPUT          of one row
        compare rows                    the rows that are timed, each with its sides
        compare once ROW INPUT SIDE N   one side of a row, N times
-kinds: runs wild damaged limits sheets queries points records drift";
+kinds: runs wild damaged limits sheets queries records drift";
 
 fn number(text: &str) -> Result<u64, String> {
     text.parse().map_err(|_| format!("no number: {text}"))

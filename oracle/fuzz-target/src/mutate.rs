@@ -176,13 +176,10 @@ impl Tables {
     /// A cell of the kind that is mostly read at this place.
     fn cell(&mut self, rng: &mut Rng, usual: u8) -> [u8; CELL] {
         let kind = if rng.chance(80) { usual } else { rng.within(0, 6) as u8 };
-        // Where an integer is read, some are written with a point.
-        let kind = if kind == 1 && rng.chance(25) { 3 } else { kind };
         let mut cell = [0; CELL];
         cell[0] = kind;
         match kind {
             1 => put(&mut cell, 8, whole(rng)),
-            3 if usual == 1 && rng.chance(80) => put(&mut cell, 8, (whole(rng) as i64 as f64).to_bits()),
             2 => put(&mut cell, 8, whole(rng) | 1 << 63),
             3 => put(&mut cell, 8, float(rng)),
             4 => {

@@ -22,7 +22,7 @@ fn written(folder: &Path, name: &str, input: &Input) {
 pub fn write(folder: &str) {
     let folder = Path::new(folder);
     let (mut kept, mut asked) = (BTreeMap::new(), 0u64);
-    for kind in ["runs", "wild", "damaged", "sheets", "queries", "points", "records", "drift"] {
+    for kind in ["runs", "wild", "damaged", "sheets", "queries", "records", "drift"] {
         for number in 0..CASES {
             for (i, question) in questions(kind, 1, number).unwrap_or_else(|e| panic!("{e}")).into_iter().enumerate() {
                 let entry = entries().iter().position(|e| e.name == question.entry.name).expect("an entry of the table");

@@ -5,7 +5,6 @@ mod damaged;
 mod drift;
 mod events;
 mod limits;
-mod points;
 mod records;
 mod rng;
 mod runs;
@@ -77,7 +76,7 @@ pub enum Case {
 }
 
 /// The kinds of cases.
-pub const KINDS: [&str; 10] = ["runs", "wild", "damaged", "limits", "sheets", "queries", "points", "records", "drift", "fixed"];
+pub const KINDS: [&str; 9] = ["runs", "wild", "damaged", "limits", "sheets", "queries", "records", "drift", "fixed"];
 
 /// Case `number` of a kind under a seed.
 pub fn case(kind: &str, seed: u64, number: u64) -> Option<Case> {
@@ -90,7 +89,6 @@ pub fn case(kind: &str, seed: u64, number: u64) -> Option<Case> {
         "limits" => Case::Log(limits::limits(rng)),
         "sheets" => Case::Log(runs::sheet(rng)),
         "queries" => Case::Log(runs::queries(rng)),
-        "points" => Case::Log(points::points(rng)),
         "records" => Case::Records(records::records(rng)),
         "drift" => Case::Drift(drift::drift(rng)),
         "fixed" => Case::Fixed(conversions::fixed(rng)),

@@ -118,11 +118,7 @@ fn of_log(case: &LogCase) -> Answer {
 
 /// Verdict, recovery, action, largest number and window.
 fn of_book(answer: &mut Answer, case: &LogCase, book: &Book) -> Option<Recovered> {
-    match (book.in_domain(), book.has_points()) {
-        (true, false) => answer.count("in the original's domain"),
-        (true, true) => answer.count("asked without points"),
-        (false, _) => answer.count("texts not UTF-8"),
-    }
+    answer.count(if book.in_domain() { "in the original's domain" } else { "texts not UTF-8" });
     answer.count_many("events", book.events.len() as u64);
     match original::verdict(book) {
         Ok((refusal, event, checkpoint)) => {

@@ -3,12 +3,9 @@
 //! None-cells are omitted. A text that is UTF-8 goes as it is. A book with a text that is not UTF-8 lies outside the
 //! original's domain; it is then written with each byte of each text as one character (U+0000 to U+00FF), which keeps
 //! which texts are equal and which parse as symbols, so that the original's answer is the one by bytes.
-//!
-//! By document 02's request (b) a float that is whole and fits i64 counts as that integer wherever as_i64 is read. The original knows no such rule, so it is
-//! given the book without points: in those cells such a float is written as its integer.
 
 use chrono::{Datelike, TimeZone, Timelike, Utc};
-use doc01::book::{Book, Cell, Row, TextRef, ACTION, CELLS, CLIENT, IBKR, POSITIONS, REASON, SHARES};
+use doc01::book::{Book, Cell, Row, TextRef, ACTION, CELLS, CLIENT, POSITIONS, REASON};
 use doc01::entries::{Entry, Value};
 use std::fmt::Write;
 
@@ -66,14 +63,6 @@ pub fn first(text: &str, lines: usize) -> &str {
     }
 }
 
-/// A cell that the original asks for an i64, without a point.
-fn without_point(cell: Cell) -> Cell {
-    match cell {
-        Cell::Float(f) if f.fract() == 0.0 && (-(2f64.powi(63))..2f64.powi(63)).contains(&f) => Cell::Int(f as i64),
-        other => other,
-    }
-}
-
 struct Lines<'a> {
     book: &'a Book,
     texts: Texts,
@@ -92,8 +81,7 @@ pub fn lines(book: &Book, texts: Texts, tagged: bool) -> String {
             write!(lines.out, ",\"sequence_number\":{number}").expect("a String takes it");
         }
         for (i, cell) in event.cells.iter().enumerate() {
-            let read = if [SHARES, IBKR].contains(&i) { without_point(*cell) } else { *cell };
-            lines.cell(CELLS[i], &read, i);
+            lines.cell(CELLS[i], cell, i);
         }
         lines.out.push_str("}\n");
     }
@@ -179,8 +167,7 @@ impl Lines<'_> {
                     self.out.push(',');
                 }
                 first = false;
-                let read = if i == 2 { without_point(*cell) } else { *cell };
-                self.plain(keys[i], &read, self.tagged && i == 1);
+                self.plain(keys[i], cell, self.tagged && i == 1);
             }
         }
         self.out.push('}');

@@ -16,7 +16,7 @@ const USAGE: &str = "usage: oracle run KIND SEED COUNT [lines]   answers COUNT c
        oracle digests FILE                     writes the digests of the answers that edits are held against
        oracle notice FILE RECORDED             prints the first case whose answer differs, in the cases and in the list
        oracle desk BOOK SHEET                  prints the desk program's reply
-kinds: runs wild damaged limits sheets queries points records drift fixed";
+kinds: runs wild damaged limits sheets queries records drift fixed";
 
 fn main() -> ExitCode {
     let args: Vec<String> = std::env::args().skip(1).collect();

@@ -8,13 +8,12 @@ use recorded::{differences, stored, words, Inputs, Judge, Recovery, Stored};
 use crate::{judge, original, reference, rule_cases};
 
 /// Which cases are recorded: kind, seed, how many, the most bytes of their book.
-const DRAWN: [(&str, u64, u64, usize); 9] = [
+const DRAWN: [(&str, u64, u64, usize); 8] = [
     ("runs", 2026, 100, 3_100),
     ("wild", 2026, 25, 2_200),
     ("damaged", 2026, 60, 1_500),
     ("sheets", 2026, 45, 2_000),
     ("queries", 2026, 45, 2_700),
-    ("points", 2026, 25, 2_700),
     ("drift", 2026, 90, 0),
     ("fixed", 2026, 200, 0),
     ("records", 2026, 60, 0),
@@ -117,7 +116,7 @@ fn inputs(case: &Case) -> Inputs {
     Inputs { kind, sections }
 }
 
-/// Whether the original can be given the case, without points where it has them: a book that is read has UTF-8 texts.
+/// Whether the original can be given the case: a book that is read has UTF-8 texts.
 fn in_domain(case: &Case) -> bool {
     match case {
         Case::Log(log) => Book::parse(&log.book).map_or(true, |b| b.in_domain()) && std::str::from_utf8(&log.window).is_ok(),

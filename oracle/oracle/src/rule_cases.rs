@@ -12,7 +12,7 @@ use crate::script::book;
 type Named = (String, Inputs);
 
 pub fn cases() -> Vec<Named> {
-    let logs = [validation(), many_events(), first_places(), first_faults(), windows(), recovery(), points(), actions(), rooms(), reports(), entries()];
+    let logs = [validation(), many_events(), first_places(), first_faults(), windows(), recovery(), actions(), rooms(), reports(), entries()];
     let others = [equality(), lent_states(), broken_marks(), joins(), drifts(), conversions(), two_faults(), broken()];
     [logs.concat(), others.concat()].concat()
 }
@@ -250,41 +250,6 @@ fn recovery() -> Vec<Named> {
             "twelve orders",
             "diff_computed 1 orders=['A' 'BUY' 1 1, 'B' 'BUY' 1 1, 'C' 'BUY' 1 1, 'D' 'BUY' 1 1, 'E' 'BUY' 1 1, 'F' 'BUY' 1 1, 'G' 'BUY' 1 1, 'H' 'BUY' 1 1, 'I' 'BUY' 1 1, 'J' 'BUY' 1 1, 'K' 'BUY' 1 1, 'L' 'BUY' 1 1]",
         ),
-    ])
-}
-
-/// Floats where an integer is read (document 02, request (b)): at the ends of what counts, and at each place.
-fn points() -> Vec<Named> {
-    let quantities = [
-        "10.0", "10.5", "-10.0", "-10.5", "0.0", "-0.0", "9.999999999999998", "10.000000000000002", "5e-324", "-5e-324", "0.5", "-0.5",
-        "4503599627370495.5", "4503599627370496.0", "9007199254740991.0", "9007199254740994.0", "-9007199254740994.0", "4294967297.0",
-        "9223372036854774784.0", "9223372036854775808.0", "-9223372036854775808.0", "-9223372036854777856.0", "18446744073709551616.0",
-        "-18446744073709551616.0", "1e300", "u9223372036854775808",
-    ];
-    let rows = |cost: &str| {
-        let rows: Vec<String> = quantities.iter().zip(b'A'..).map(|(q, name)| format!("'{}' 'BUY' {q} {cost}", name as char)).collect();
-        rows.join(", ")
-    };
-    let submitted = |id: &str, fill: &str| {
-        format!("diff_computed 1 orders=['A' 'BUY' 1 1.0, 'B' 'BUY' 1 1.0]; order_submitted 2 symbol='B' ibkr_id={id}; order_filled 3 ibkr_id={fill}")
-    };
-    let intent = |shares: &str| format!("order_intent 1 symbol='A' action='BUY' shares={shares} limit=1.0 client_order_id='c'");
-    plain(&[
-        ("quantities of positions", &format!("positions_result 1 positions=[{}]", rows("1.0"))),
-        ("shares of a diff", &format!("diff_computed 1 orders=[{}]", rows("1.0"))),
-        ("an intent's shares, 10.0", &intent("10.0")),
-        ("an intent's shares, 10.5", &intent("10.5")),
-        ("an intent's shares, -0.0", &intent("-0.0")),
-        ("submitted as 5.0, filled by 5", &submitted("5.0", "5")),
-        ("submitted as 5, filled by 5.0", &submitted("5", "5.0")),
-        ("submitted as 5.5, filled by 5", &submitted("5.5", "5")),
-        ("submitted as 5, filled by 5.5", &submitted("5", "5.5")),
-        ("submitted as 2^32 + 1 with a point, filled by 1", &submitted("4294967297.0", "1")),
-        ("submitted as 2^32 + 1 with a point, filled by 1.0", &submitted("4294967297.0", "1.0")),
-        ("submitted and filled as 2^32 + 1 with a point", &submitted("4294967297.0", "4294967297.0")),
-        ("filled by -0.0", &submitted("5", "-0.0")),
-        ("an equity and a limit with a fraction", "diff_computed 1 orders=['A' 'BUY' 10.0 101.99]; account_summary_result 2 equity=10.5"),
-        ("a cancel result that says 0.0", "cancel_result 1 success=0.0"),
     ])
 }
 

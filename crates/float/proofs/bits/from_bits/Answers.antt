@@ -1,5 +1,5 @@
 -- `float::bits::from_bits` meets its contract: a pattern up to an infinity's is no NaN's, and each one above it is. Assumes nothing.
-use Rattle.std.proofs.Common.{◌≡◌, sym, refl, ◌∙◌, rules}
+use Rattle.std.proofs.Common.{◌≡◌, sym, refl, ◌∙◌}
 use lib.Ieee.{nan, binary64, div, of_bits}
 use Rattle.float.proofs.Patterns.{pattern_nan, pattern_fine}
 use Rattle.float.proofs.bits.from_bits.Goals as goal

@@ -1,12 +1,12 @@
 -- `float::bits::saturating_i64` meets its contract: within the range by `truncating_f64_to_i64`, outside it by the laws of `Saturate`. Assumes nothing.
-use Rattle.std.proofs.Common.{T, sym, subst, rules}
+use Rattle.std.proofs.Common.{T, sym, subst}
 use lib.Ieee.{of_bits, neg}
 use Rattle.float.proofs.Saturate.{over, under_lowest, neither}
 use Rattle.float.proofs.bits.saturating_i64.Goals as goal
 
 pub truncating_f64_to_i64-requires : goal.truncating_f64_to_i64-requires
 unfolding of_bits neg
-truncating_f64_to_i64-requires c κs = (subst T (sym c.if-x.true) tt, subst T (sym c.if-x-2.true) tt)
+truncating_f64_to_i64-requires c = record { lower_bound = subst T (sym c.if-x.true) tt; upper_bound = subst T (sym c.if-x-2.true) tt }
 
 pub returns-else-x-2 : goal.returns-else-x-2
 unfolding of_bits neg

@@ -1,5 +1,5 @@
 -- `float::bits::to_bits` meets its contract: only a NaN differs from itself. Assumes nothing.
-use Rattle.std.proofs.Common.{◌≡◌, ℕ, T, sym, refl, subst, rules}
+use Rattle.std.proofs.Common.{◌≡◌, ℕ, T, sym, refl, subst}
 use lib.Ieee.{nan, binary64, to_bits}
 use lib.Ieee.Compare.{differs_from_itself}
 use Rattle.float.proofs.Patterns.{same_fine}

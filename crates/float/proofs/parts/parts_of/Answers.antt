@@ -1,5 +1,4 @@
 -- `float::parts::parts_of` meets its contract, by the two ways of the exponent's field. Assumes nothing.
-use Rattle.std.proofs.Common.{rules}
 use Rattle.float.proofs.Decode.{parted_low, parted_mid}
 use Rattle.float.proofs.parts.parts_of.Goals as goal
 

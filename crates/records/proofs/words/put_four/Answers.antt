@@ -1,0 +1,18 @@
+-- `words::put_four`: as the call ensures where all the bytes are there; else the four writes, one after the other; nothing past the end.
+use mathlib.Core.Path.{sym, ◌∙◌}
+use mathlib.Core.List.{◌++◌}
+use Rattle.wire.specs.Le.{bytes_of}
+use Rattle.wire.proofs.Written.{sets_past}
+use Rattle.records.proofs.WrittenWords.{four_words}
+use Rattle.records.proofs.words.put_four.Goals as goal
+
+pub returns-then-d-at : goal.returns-then-d-at
+returns-then-d-at c =
+    let a = c.args in
+    sym (sets_past a.d.now a.at (bytes_of 8 a.w0 ++ bytes_of 8 a.w1 ++ bytes_of 8 a.w2 ++ bytes_of 8 a.w3) c.if-d-at.true)
+
+pub returns : goal.returns
+returns c =
+    let a = c.args in
+    c.put_u64-4.ensures
+    ∙ rw (c.put_u64-3.ensures, c.put_u64-2.ensures, c.put_u64.ensures) (four_words a.d.now a.at a.w0 a.w1 a.w2 a.w3)

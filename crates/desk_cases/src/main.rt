@@ -3,38 +3,37 @@
 // It reads the files, written by `make`, from the folder it is run in. Of a name that `make` does not write the file is missing.
 #![tactic(auto)]
 
-use libc::STDOUT_FILENO;
+use std::io;
+use std::rt::Files;
 
-fn case(book: &[u8], sheet: &[u8]) {
-    io::write_all(STDOUT_FILENO, book);
-    io::write_all(STDOUT_FILENO, b" ");
-    io::write_all(STDOUT_FILENO, sheet);
-    io::write_all(STDOUT_FILENO, b"\n");
-    desk_files::run(book, sheet);
+fn case(rt: &(impl Files + Print + Eprint), book: &str, sheet: &str) -> io::Result<()> {
+    println!(rt; "{book} {sheet}")?;
+    desk_files::run(rt, book, sheet);
+    Ok(())
 }
 
 // Document 01's sample, then books that the desk must read whole, books that it refuses, and a folder in a file's place.
-fn books() {
-    case(b"sample.book", b"empty.sheet");
-    case(b"65536.book", b"empty.sheet");
-    case(b"65537.book", b"empty.sheet");
-    case(b"missing.book", b"empty.sheet");
-    case(b"4.book", b"empty.sheet");
-    case(b"damaged.book", b"empty.sheet");
-    case(b".", b"empty.sheet");
+fn books(rt: &(impl Files + Print + Eprint)) -> io::Result<()> {
+    case(rt, "sample.book", "empty.sheet")?;
+    case(rt, "65536.book", "empty.sheet")?;
+    case(rt, "65537.book", "empty.sheet")?;
+    case(rt, "missing.book", "empty.sheet")?;
+    case(rt, "4.book", "empty.sheet")?;
+    case(rt, "damaged.book", "empty.sheet")?;
+    case(rt, ".", "empty.sheet")
 }
 
 // Sheets: a report, one that has no room, and refusals; the book's comes before the sheet's.
-fn sheets() {
-    case(b"65536.book", b"orders.sheet");
-    case(b"positions.book", b"largest.sheet");
-    case(b"sample.book", b"65536.sheet");
-    case(b"sample.book", b"65537.sheet");
-    case(b"sample.book", b"missing.sheet");
-    case(b"missing.book", b"65537.sheet");
+fn sheets(rt: &(impl Files + Print + Eprint)) -> io::Result<()> {
+    case(rt, "65536.book", "orders.sheet")?;
+    case(rt, "positions.book", "largest.sheet")?;
+    case(rt, "sample.book", "65536.sheet")?;
+    case(rt, "sample.book", "65537.sheet")?;
+    case(rt, "sample.book", "missing.sheet")?;
+    case(rt, "missing.book", "65537.sheet")
 }
 
-fn main() {
-    books();
-    sheets();
+fn main(rt: HostRuntime) -> io::Result<()> {
+    books(&rt)?;
+    sheets(&rt)
 }

@@ -10,8 +10,10 @@ ghost use Rattle.std.specs.Prelude.{◌≡◌, ◌+◌, ◌≤◌, length};
 ghost use Rattle.wire.specs.Table.{padded};
 ghost use Rattle.desk_files.specs.Printed.{printed};
 
-use libc::STDOUT_FILENO;
 use reply::Replied;
+use std::io::{ErrorKind, Read};
+use std::rt::Files;
+use std::{fs, io};
 
 // Entry. The reply to the first `n` bytes of `book` and the first `m` of `sheet`, at the start of `out`, with zeros after it; its length is returned. A count
 // above 65,537 stands for the whole buffer. The reply always fits, so the second arm is never taken.
@@ -30,23 +32,30 @@ pub fn answer(
     }
 }
 
+// Says on standard error what failed, and why. That it cannot be said is passed over.
+fn fail(rt: &impl Eprint, what: &str, error: &io::Error) {
+    let _ = eprintln!(rt; "{what}: {error}");
+}
+
 // Reads what is left of a file into `buf` from `at` on. Returns how many bytes came: 0 at the file's end, and where reading fails, which is said on standard error.
-fn read_on(fd: i32, path: &[u8], buf: &mut [u8], at: usize) -> usize
+fn read_on(rt: &impl Eprint, file: &mut impl Read, path: &str, buf: &mut [u8], at: usize) -> usize
     requires { at ≤ length buf.old }
     ensures { at + result ≤ length buf.old }
 {
-    let got = libc::read(fd, &mut buf[at..]);
-    if got < 0 {
-        os::fail(path);
+    match file.read(&mut buf[at..]) {
+        Ok(n) => n,
+        Err(error) => {
+            fail(rt, path, &error);
+            0
+        }
     }
-    io::count(got, &buf[at..])
 }
 
 // Reads a file from its start into `buf`, as much as there is room for, and returns how many bytes came.
-fn read_file(fd: i32, path: &[u8], buf: &mut [u8]) -> usize {
+fn read_file(rt: &impl Eprint, file: &mut impl Read, path: &str, buf: &mut [u8]) -> usize {
     let mut n = 0;
     while n < buf.len() {
-        let more = read_on(fd, path, buf, n);
+        let more = read_on(rt, file, path, buf, n);
         if more == 0 {
             return n;
         }
@@ -57,33 +66,32 @@ fn read_file(fd: i32, path: &[u8], buf: &mut [u8]) -> usize {
 
 // The same of a file by its path. A missing file is read as empty; so is one that cannot be opened, which is said on standard error; one whose
 // reading fails is read as far as it came, and that is said there too.
-fn load(path: &[u8], buf: &mut [u8; 65537]) -> usize {
-    let fd = os::open_read(path);
-    if fd < 0 {
-        if os::errno() != libc::ENOENT {
-            os::fail(path);
+fn load<R: Files + Eprint>(rt: &R, path: &str, buf: &mut [u8; 65537]) -> usize {
+    match fs::open(rt, path) {
+        Ok(mut file) => read_file(rt, &mut file, path, buf),
+        Err(error) => {
+            if error.kind() != ErrorKind::NotFound {
+                fail(rt, path, &error);
+            }
+            0
         }
-        return 0;
     }
-    let n = read_file(fd, path, buf);
-    libc::close(fd);
-    n
 }
 
 // Writes the first `len` bytes of `out` to standard output. That they cannot be written is said on standard error.
-fn print(out: &[u8; 65536], len: usize) {
-    if !io::write_all(STDOUT_FILENO, wire::part(out, 0, len)) {
-        os::fail(b"standard output");
+fn print(rt: &(impl Print + Eprint), out: &[u8; 65536], len: usize) {
+    if let Err(error) = rt.write_all(wire::part(out, 0, len)) {
+        fail(rt, "standard output", &error);
     }
 }
 
 // Reads a book and a sheet by their paths and prints the reply to them.
-pub fn run(book_path: &[u8], sheet_path: &[u8]) {
+pub fn run(rt: &(impl Files + Print + Eprint), book_path: &str, sheet_path: &str) {
     let mut book = [0u8; 65537];
-    let n = load(book_path, &mut book);
+    let n = load(rt, book_path, &mut book);
     let mut sheet = [0u8; 65537];
-    let m = load(sheet_path, &mut sheet);
+    let m = load(rt, sheet_path, &mut sheet);
     let mut out = [0u8; 65536];
     let len = answer(&book, n, &sheet, m, &mut out);
-    print(&out, len);
+    print(rt, &out, len);
 }

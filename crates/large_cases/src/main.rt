@@ -10,9 +10,10 @@
 
 use intents::Reconciling;
 use join::Joining;
-use libc::STDOUT_FILENO;
 use marks_answers::intents_answer;
 use reply::Replied;
+use std::io;
+use std::io::Read;
 
 fn refusal(j: Joining) -> u64 {
     match j {
@@ -35,23 +36,22 @@ fn addendum_refusal(r: Reconciling) -> u64 {
 }
 
 // The join of two books.
-fn tell_join(case: &[u8], a: &[u8], b: &[u8]) {
+fn tell_join(rt: &impl Print, case: &[u8], a: &[u8], b: &[u8]) -> io::Result<()> {
     let mut out = cases::zeros();
-    let room = io::count(wire::u32_at(case, 72) as isize, &out);
+    let room = (wire::u32_at(case, 72) as usize).min(out.len());
     let k = wire::u64_at(case, 32);
-    cases::tell_number(refusal(join::join(a, b, k, &mut out[..room])));
+    cases::tell_number(rt, refusal(join::join(a, b, k, &mut out[..room])))
 }
 
 // The desk's reply to a book and a sheet: its length and its first bytes.
-fn tell_reply(book: &[u8], sheet: &[u8]) {
-    let mut out = io::buffer();
+fn tell_reply(rt: &impl Print, book: &[u8], sheet: &[u8]) -> io::Result<()> {
+    let mut out = [0u8; 4096];
     let Replied::Done(n) = reply::reply(book, sheet, &mut out) else {
-        return;
+        return Ok(());
     };
-    io::print_decimal(STDOUT_FILENO, n as u64);
-    io::write_all(STDOUT_FILENO, b" ");
-    io::write_all(STDOUT_FILENO, wire::part(&out, 0, 9));
-    io::write_all(STDOUT_FILENO, b"\n");
+    print!(rt; "{n} ")?;
+    rt.write_all(wire::part(&out, 0, 9))?;
+    println!(rt)
 }
 
 // Reconciling of orders with a sheet, every query answered.
@@ -59,29 +59,32 @@ fn reconciled(case: &[u8], orders: &[u8], sheet: &[u8], marks: &[u8]) -> Reconci
     let answered = cases::zeros();
     let queries = wire::part(&answered, 0, wire::u64_at(case, 88) as usize);
     let mut addendum = cases::zeros();
-    let room = io::count(wire::u32_at(case, 72) as isize, &addendum);
+    let room = (wire::u32_at(case, 72) as usize).min(addendum.len());
     intents_answer::lent_reconciling(marks, orders, sheet, queries, 0, &mut addendum[..room])
 }
 
 // The same with marks that begin, but for their number.
-fn tell_reconciled(case: &[u8], orders: &[u8], sheet: &[u8]) {
+fn tell_reconciled(rt: &impl Print, case: &[u8], orders: &[u8], sheet: &[u8]) -> io::Result<()> {
     let mut marks = [0u8; 176];
     marks[0] = 1;
     wire::copy(&mut marks, 8, wire::part(case, 80, 8));
-    cases::tell_number(addendum_refusal(reconciled(case, orders, sheet, &marks)));
+    cases::tell_number(
+        rt,
+        addendum_refusal(reconciled(case, orders, sheet, &marks)),
+    )
 }
 
-fn tell_none() {
-    io::write_all(STDOUT_FILENO, b"a case of no kind\n");
+fn tell_none(rt: &impl Print) -> io::Result<()> {
+    println!(rt; "a case of no kind")
 }
 
-fn tell(case: &[u8], a: &[u8], b: &[u8]) {
+fn tell(rt: &impl Print, case: &[u8], a: &[u8], b: &[u8]) -> io::Result<()> {
     let kind = wire::u64_of(case);
     match kind {
-        1 => tell_join(case, a, b),
-        2 => tell_reply(a, b),
-        3 => tell_reconciled(case, a, b),
-        _ => tell_none(),
+        1 => tell_join(rt, case, a, b),
+        2 => tell_reply(rt, a, b),
+        3 => tell_reconciled(rt, case, a, b),
+        _ => tell_none(rt),
     }
 }
 
@@ -112,35 +115,36 @@ fn put_first(d: &mut [u8], case: &[u8]) {
     wire::copy(d, 0, wire::part(case, 304, wire::u64_at(case, 64) as usize));
 }
 
-fn tell_case(case: &[u8]) {
+fn tell_case(rt: &impl Print, case: &[u8]) -> io::Result<()> {
     let mut a = cases::zeros();
     let mut b = cases::zeros();
     put_first(&mut a, case);
     wire::copy(&mut b, 0, wire::part(case, 160, 48));
-    cases::tell_label(wire::part(case, 96, wire::u64_at(case, 8) as usize));
+    cases::tell_label(rt, wire::part(case, 96, wire::u64_at(case, 8) as usize))?;
     tell(
+        rt,
         case,
         wire::part(&a, 0, wire::u64_at(case, 16) as usize),
         wire::part(&b, 0, wire::u64_at(case, 24) as usize),
-    );
+    )
 }
 
 // Reads a case and tells of it; false where none is left.
-fn read_case(fd: i32) -> bool {
+fn read_case(rt: &impl Print, file: &mut impl Read) -> io::Result<bool> {
     let mut case = [0u8; 568];
-    if io::read_full(fd, &mut case) != 568 {
-        return false;
+    if cases::read_full(file, &mut case)? != 568 {
+        return Ok(false);
     }
-    tell_case(&case);
-    true
+    tell_case(rt, &case)?;
+    Ok(true)
 }
 
-fn main() {
-    let fd = cases::open();
+fn main(rt: HostRuntime) -> io::Result<()> {
+    let mut file = cases::open(&rt, "cases.bin")?;
     for _ in 0..1000u32 {
-        if !read_case(fd) {
+        if !read_case(&rt, &mut file)? {
             break;
         }
     }
-    libc::close(fd);
+    Ok(())
 }

@@ -4,30 +4,33 @@
 // the book's first bytes. After these the book has zeros.
 #![tactic(auto)]
 
-fn tell_case(case: &[u8]) {
+use std::io;
+use std::io::Read;
+
+fn tell_case(rt: &impl Print, case: &[u8]) -> io::Result<()> {
     let mut d = cases::zeros();
     wire::copy(&mut d, 0, wire::from(case, 64));
-    cases::tell_label(wire::part(case, 16, wire::u64_of(case) as usize));
+    cases::tell_label(rt, wire::part(case, 16, wire::u64_of(case) as usize))?;
     let book = wire::part(&d, 0, wire::u64_at(case, 8) as usize);
-    cases::tell_number(cases::refusal(book::layout::check(book)));
+    cases::tell_number(rt, cases::refusal(book::layout::check(book)))
 }
 
 // Reads a case and tells of it; false where none is left.
-fn read_case(fd: i32) -> bool {
+fn read_case(rt: &impl Print, file: &mut impl Read) -> io::Result<bool> {
     let mut case = [0u8; 400];
-    if io::read_full(fd, &mut case) != 400 {
-        return false;
+    if cases::read_full(file, &mut case)? != 400 {
+        return Ok(false);
     }
-    tell_case(&case);
-    true
+    tell_case(rt, &case)?;
+    Ok(true)
 }
 
-fn main() {
-    let fd = cases::open();
+fn main(rt: HostRuntime) -> io::Result<()> {
+    let mut file = cases::open(&rt, "cases.bin")?;
     for _ in 0..1000u32 {
-        if !read_case(fd) {
+        if !read_case(&rt, &mut file)? {
             break;
         }
     }
-    libc::close(fd);
+    Ok(())
 }

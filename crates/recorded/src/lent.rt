@@ -2,14 +2,16 @@
 // than any answer of the list, and stand for any larger room.
 use crate::saved;
 use answers::Numbers;
+use std::io;
+use std::io::Read;
 
-pub fn room(bytes: u64) -> isize {
-    if bytes < 65536 { bytes as isize } else { 65536 }
+pub fn room(bytes: u64) -> usize {
+    if bytes < 65536 { bytes as usize } else { 65536 }
 }
 
 // The comparison of a state into so many bytes of a report.
 pub fn compare_in(s: &[u8], sheet: &[u8], report: &mut [u8], bytes: u64) -> Numbers {
-    let n = io::count(room(bytes), report);
+    let n = room(bytes).min(report.len());
     saved::compare(s, sheet, &mut report[..n])
 }
 
@@ -23,7 +25,7 @@ pub fn reconcile_in(
     bytes: u64,
     answer: &mut [u8],
 ) -> u32 {
-    let n = io::count(room(bytes), addendum);
+    let n = room(bytes).min(addendum.len());
     saved::reconcile(s, sheet, queries, time, &mut addendum[..n], answer)
 }
 
@@ -36,7 +38,7 @@ pub fn drift_in(
     entries: &mut [u8],
     bytes: u64,
 ) -> Numbers {
-    let n = io::count(room(bytes), entries);
+    let n = room(bytes).min(entries.len());
     drift_answers::drift_numbers(drift::report::reconcile(
         holdings,
         targets,
@@ -47,7 +49,7 @@ pub fn drift_in(
 }
 
 // Reads so many bytes of a file, and returns how many came.
-pub fn read_in(fd: i32, buf: &mut [u8], bytes: u64) -> usize {
-    let n = io::count(room(bytes), buf);
-    io::read_full(fd, &mut buf[..n])
+pub fn read_in(file: &mut impl Read, buf: &mut [u8], bytes: u64) -> io::Result<usize> {
+    let n = room(bytes).min(buf.len());
+    cases::read_full(file, &mut buf[..n])
 }

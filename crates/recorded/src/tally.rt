@@ -1,7 +1,7 @@
 // How many answers of each sort were compared, by the sort's number, and a line for each that is not the recorded one.
 use crate::body;
 use answers::Numbers;
-use libc::STDOUT_FILENO;
+use std::io;
 
 pub const CASES: usize = 0;
 
@@ -66,57 +66,81 @@ pub fn add(tally: &mut [u64], sort: usize) {
 }
 
 // A line for an answer that is not the recorded one.
-fn print_difference(case: u64, section: u64) {
-    io::write_all(STDOUT_FILENO, b"case ");
-    io::print_decimal(STDOUT_FILENO, case);
-    io::write_all(STDOUT_FILENO, b" section ");
-    io::print_decimal(STDOUT_FILENO, section);
-    io::write_all(STDOUT_FILENO, b" differs\n");
+fn print_difference(rt: &impl Print, case: u64, section: u64) -> io::Result<()> {
+    println!(rt; "case {case} section {section} differs")
 }
 
 // An answer of the case that was counted last. Cases are numbered from 0.
-pub fn differs(tally: &mut [u64], section: u32) {
+pub fn differs(rt: &impl Print, tally: &mut [u64], section: u32) -> io::Result<()> {
     add(tally, DISAGREEMENTS);
     let cases = count(tally, CASES);
     if 0 < cases {
-        print_difference(cases - 1, section as u64);
+        print_difference(rt, cases - 1, section as u64)?;
     }
+    Ok(())
 }
 
 // Counts an answer to a section, and whether it differs from the recorded one.
-pub fn compared(tally: &mut [u64], sort: usize, section: u32, agrees: bool) {
+pub fn compared(
+    rt: &impl Print,
+    tally: &mut [u64],
+    sort: usize,
+    section: u32,
+    agrees: bool,
+) -> io::Result<()> {
     add(tally, sort);
     if !agrees {
-        differs(tally, section);
+        differs(rt, tally, section)?;
     }
+    Ok(())
 }
 
 // Counts an answer in bytes.
-pub fn bytes(tally: &mut [u64], sort: usize, b: &[u8], section: u32, answer: &[u8]) {
+pub fn bytes(
+    rt: &impl Print,
+    tally: &mut [u64],
+    sort: usize,
+    b: &[u8],
+    section: u32,
+    answer: &[u8],
+) -> io::Result<()> {
     let agrees = wire::same(answer, body::section(b, section));
-    compared(tally, sort, section, agrees);
+    compared(rt, tally, sort, section, agrees)
 }
 
 // Counts an answer of a refusal and one number, and of a refusal and two.
-pub fn two(tally: &mut [u64], sort: usize, b: &[u8], section: u32, n: Numbers) {
+pub fn two(
+    rt: &impl Print,
+    tally: &mut [u64],
+    sort: usize,
+    b: &[u8],
+    section: u32,
+    n: Numbers,
+) -> io::Result<()> {
     let agrees = body::is_two(body::section(b, section), n.refusal as u64, n.a);
-    compared(tally, sort, section, agrees);
+    compared(rt, tally, sort, section, agrees)
 }
 
-pub fn three(tally: &mut [u64], sort: usize, b: &[u8], section: u32, n: Numbers) {
+pub fn three(
+    rt: &impl Print,
+    tally: &mut [u64],
+    sort: usize,
+    b: &[u8],
+    section: u32,
+    n: Numbers,
+) -> io::Result<()> {
     let agrees = body::is_three(body::section(b, section), n.refusal as u64, n.a, n.b);
-    compared(tally, sort, section, agrees);
+    compared(rt, tally, sort, section, agrees)
 }
 
 // A line of a sort's count.
-fn print_count(label: &[u8], n: u64) {
-    io::write_all(STDOUT_FILENO, label);
-    io::print_decimal(STDOUT_FILENO, n);
-    io::write_all(STDOUT_FILENO, b"\n");
+fn print_count(rt: &impl Print, label: &[u8], n: u64) -> io::Result<()> {
+    rt.write_all(label)?;
+    println!(rt; "{n}")
 }
 
 // All counts, a line each.
-pub fn print(tally: &[u64]) {
+pub fn print(rt: &impl Print, tally: &[u64]) -> io::Result<()> {
     // The sorts in the order of their numbers, each in 16 bytes.
     let labels = b"cases           \
               verdicts        \
@@ -144,7 +168,8 @@ pub fn print(tally: &[u64]) {
     let mut left: u8 = 23;
     while 0 < left {
         let sort = (23 - left) as usize;
-        print_count(wire::part(labels, 16 * sort, 16), count(tally, sort));
+        print_count(rt, wire::part(labels, 16 * sort, 16), count(tally, sort))?;
         left -= 1;
     }
+    Ok(())
 }

@@ -10,55 +10,54 @@ mod refusals;
 mod tell;
 mod turns;
 
-fn turn(kind: u64, e: &[u8]) {
+use std::io;
+use std::io::Read;
+
+fn turn(rt: &impl Print, kind: u64, e: &[u8]) -> io::Result<()> {
     match kind {
-        8 => desk::sample(e),
-        9 => turns::fill(e),
-        10 => turns::restarted(e),
-        11 => turns::symbols(e),
-        _ => tell::one(b"an example of no kind", kind),
+        8 => desk::sample(rt, e),
+        9 => turns::fill(rt, e),
+        10 => turns::restarted(rt, e),
+        11 => turns::symbols(rt, e),
+        _ => tell::one(rt, b"an example of no kind", kind),
     }
 }
 
-fn by_kind(kind: u64, e: &[u8]) {
+fn by_kind(rt: &impl Print, kind: u64, e: &[u8]) -> io::Result<()> {
     match kind {
-        1 => refusals::verdict(e),
-        2 => refusals::recovered(e),
-        3 => refusals::reconciled(e),
-        4 => refusals::fixed(e),
-        5 => refusals::weight(e),
-        6 => refusals::held(e),
-        7 => refusals::joined(e),
-        _ => turn(kind, e),
+        1 => refusals::verdict(rt, e),
+        2 => refusals::recovered(rt, e),
+        3 => refusals::reconciled(rt, e),
+        4 => refusals::fixed(rt, e),
+        5 => refusals::weight(rt, e),
+        6 => refusals::held(rt, e),
+        7 => refusals::joined(rt, e),
+        _ => turn(rt, kind, e),
     }
 }
 
 // Reads an example and tells of it; false where none is left.
-fn read_example(fd: i32) -> bool {
+fn read_example(rt: &impl Print, file: &mut impl Read) -> io::Result<bool> {
     let mut e = [0u8; 1920];
-    if io::read_full(fd, &mut e) != 1920 {
-        return false;
+    if cases::read_full(file, &mut e)? != 1920 {
+        return Ok(false);
     }
-    by_kind(wire::u64_of(&e), &e);
-    true
+    by_kind(rt, wire::u64_of(&e), &e)?;
+    Ok(true)
 }
 
-fn read_examples(fd: i32, most: u32) {
+fn read_examples(rt: &impl Print, file: &mut impl Read, most: u32) -> io::Result<()> {
     let mut left = most;
     while 0 < left {
-        if !read_example(fd) {
-            return;
+        if !read_example(rt, file)? {
+            return Ok(());
         }
         left -= 1;
     }
+    Ok(())
 }
 
-fn main() {
-    let fd = os::open_read(b"examples.bin");
-    if fd < 0 {
-        os::fail(b"examples.bin");
-        return;
-    }
-    read_examples(fd, 1000);
-    libc::close(fd);
+fn main(rt: HostRuntime) -> io::Result<()> {
+    let mut file = cases::open(&rt, "examples.bin")?;
+    read_examples(&rt, &mut file, 1000)
 }

@@ -1,52 +1,50 @@
 // Lines of a label and numbers.
-use libc::STDOUT_FILENO;
+use std::io;
 
-pub fn label(text: &[u8]) {
-    io::write_all(STDOUT_FILENO, text);
-    io::write_all(STDOUT_FILENO, b":");
+pub fn label(rt: &impl Print, text: &[u8]) -> io::Result<()> {
+    rt.write_all(text)?;
+    rt.write_all(b":")
 }
 
-pub fn number(x: u64) {
-    io::write_all(STDOUT_FILENO, b" ");
-    io::print_decimal(STDOUT_FILENO, x);
+pub fn number(rt: &impl Print, x: u64) -> io::Result<()> {
+    print!(rt; " {x}")
 }
 
-pub fn text(t: &[u8]) {
-    io::write_all(STDOUT_FILENO, b" ");
-    io::write_all(STDOUT_FILENO, t);
+pub fn text(rt: &impl Print, t: &[u8]) -> io::Result<()> {
+    rt.write_all(b" ")?;
+    rt.write_all(t)
 }
 
-pub fn end() {
-    io::write_all(STDOUT_FILENO, b"\n");
+pub fn end(rt: &impl Print) -> io::Result<()> {
+    println!(rt)
 }
 
 // A line of one number, of two and of three.
-pub fn one(text: &[u8], x: u64) {
-    label(text);
-    number(x);
-    end();
+pub fn one(rt: &impl Print, text: &[u8], x: u64) -> io::Result<()> {
+    label(rt, text)?;
+    number(rt, x)?;
+    end(rt)
 }
 
-pub fn two(text: &[u8], x: u64, y: u64) {
-    label(text);
-    number(x);
-    number(y);
-    end();
+pub fn two(rt: &impl Print, text: &[u8], x: u64, y: u64) -> io::Result<()> {
+    label(rt, text)?;
+    number(rt, x)?;
+    number(rt, y)?;
+    end(rt)
 }
 
-pub fn three(text: &[u8], x: u64, y: u64, z: u64) {
-    label(text);
-    number(x);
-    number(y);
-    number(z);
-    end();
+pub fn three(rt: &impl Print, text: &[u8], x: u64, y: u64, z: u64) -> io::Result<()> {
+    label(rt, text)?;
+    number(rt, x)?;
+    number(rt, y)?;
+    number(rt, z)?;
+    end(rt)
 }
 
 // A refusal's number alone, or 0 and the value where there is none.
-pub fn value(text: &[u8], refusal: u32, x: u64) {
+pub fn value(rt: &impl Print, text: &[u8], refusal: u32, x: u64) -> io::Result<()> {
     if refusal != 0 {
-        one(text, refusal as u64);
-        return;
+        return one(rt, text, refusal as u64);
     }
-    two(text, 0, x);
+    two(rt, text, 0, x)
 }

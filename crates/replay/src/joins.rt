@@ -2,6 +2,7 @@
 use crate::addenda;
 use answers::Numbers;
 use recorded::{body, tally};
+use std::io;
 
 // The join into so many bytes.
 fn join(b: &[u8], out: &mut [u8], bytes: u64) -> Numbers {
@@ -16,21 +17,34 @@ fn join(b: &[u8], out: &mut [u8], bytes: u64) -> Numbers {
 
 // The refusal of the join with lent room.
 fn lent_joining(b: &[u8]) -> u32 {
-    let mut out = io::large_buffer();
+    let mut out = [0u8; 65536];
     let n = join(b, &mut out, body::number_in(b, 3, 1));
     n.refusal
 }
 
 // Section 4.
-fn joining_numbers(tally: &mut [u64], b: &[u8], lent: u32, n: Numbers) {
+fn joining_numbers(
+    rt: &impl Print,
+    tally: &mut [u64],
+    b: &[u8],
+    lent: u32,
+    n: Numbers,
+) -> io::Result<()> {
     let agrees = body::is_three(body::section(b, 4), n.refusal as u64, lent as u64, n.a);
-    tally::compared(tally, tally::JOINS, 4, agrees);
+    tally::compared(rt, tally, tally::JOINS, 4, agrees)
 }
 
 // Sections 4 and 5.
-pub fn replay(tally: &mut [u64], b: &[u8]) {
-    let mut out = io::large_buffer();
+pub fn replay(rt: &impl Print, tally: &mut [u64], b: &[u8]) -> io::Result<()> {
+    let mut out = [0u8; 65536];
     let n = join(b, &mut out, 65536);
-    joining_numbers(tally, b, lent_joining(b), n);
-    tally::bytes(tally, tally::JOINS, b, 5, wire::part(&out, 0, n.a as usize));
+    joining_numbers(rt, tally, b, lent_joining(b), n)?;
+    tally::bytes(
+        rt,
+        tally,
+        tally::JOINS,
+        b,
+        5,
+        wire::part(&out, 0, n.a as usize),
+    )
 }

@@ -10,87 +10,94 @@ mod joins;
 mod logs;
 mod recover;
 
-use libc::STDOUT_FILENO;
 use recorded::{conversions, drifts, lent, tally};
+use std::io;
+use std::io::Read;
 
 // A case of a kind. One of no kind that is known differs in its section 0.
-fn by_kind(tally: &mut [u64], kind: u32, b: &[u8]) {
+fn by_kind(rt: &impl Print, tally: &mut [u64], kind: u32, b: &[u8]) -> io::Result<()> {
     tally::add(tally, tally::CASES);
     match kind {
-        1 => logs::replay(tally, b),
-        2 => drifts::replay(tally, b),
-        3 => conversions::replay(tally, b),
-        4 => actions::replay(tally, b),
-        5 => joins::replay(tally, b),
-        _ => tally::differs(tally, 0),
+        1 => logs::replay(rt, tally, b),
+        2 => drifts::replay(rt, tally, b),
+        3 => conversions::replay(rt, tally, b),
+        4 => actions::replay(rt, tally, b),
+        5 => joins::replay(rt, tally, b),
+        _ => tally::differs(rt, tally, 0),
     }
 }
 
 // Reads a body of so many bytes and replays it; false where the list has it not whole, or it is above 65,536 bytes.
-fn read_body(fd: i32, tally: &mut [u64], kind: u32, len: u32) -> bool {
-    let mut bytes = io::large_buffer();
-    let n = lent::read_in(fd, &mut bytes, len as u64);
+fn read_body(
+    rt: &impl Print,
+    file: &mut impl Read,
+    tally: &mut [u64],
+    kind: u32,
+    len: u32,
+) -> io::Result<bool> {
+    let mut bytes = [0u8; 65536];
+    let n = lent::read_in(file, &mut bytes, len as u64)?;
     if n != (len as usize) {
-        return false;
+        return Ok(false);
     }
-    by_kind(tally, kind, wire::part(&bytes, 0, n));
-    true
+    by_kind(rt, tally, kind, wire::part(&bytes, 0, n))?;
+    Ok(true)
 }
 
 // Reads a case and replays it.
-fn read_case(fd: i32, tally: &mut [u64]) -> bool {
+fn read_case(rt: &impl Print, file: &mut impl Read, tally: &mut [u64]) -> io::Result<bool> {
     let mut head = [0u8; 8];
-    if io::read_full(fd, &mut head) != 8 {
-        return false;
+    if cases::read_full(file, &mut head)? != 8 {
+        return Ok(false);
     }
     let kind = wire::u32_of(&head);
     let len = wire::u32_at(&head, 4);
-    read_body(fd, tally, kind, len)
+    read_body(rt, file, tally, kind, len)
 }
 
 // Replays so many cases; false where the list ends before.
-fn read_cases(fd: i32, tally: &mut [u64], count: u32) -> bool {
+fn read_cases(
+    rt: &impl Print,
+    file: &mut impl Read,
+    tally: &mut [u64],
+    count: u32,
+) -> io::Result<bool> {
     let mut left = count;
     while 0 < left {
-        if !read_case(fd, tally) {
-            return false;
+        if !read_case(rt, file, tally)? {
+            return Ok(false);
         }
         left -= 1;
     }
-    true
+    Ok(true)
 }
 
 // Whether nothing is left to read.
-fn at_end(fd: i32) -> bool {
+fn at_end(file: &mut impl Read) -> io::Result<bool> {
     let mut more = [0u8; 1];
-    io::read_full(fd, &mut more) == 0
+    Ok(cases::read_full(file, &mut more)? == 0)
 }
 
 // Replays a whole list of format 1; false where it is none, breaks off, or has bytes after its last case.
-fn read_list(fd: i32, tally: &mut [u64]) -> bool {
+fn read_list(rt: &impl Print, file: &mut impl Read, tally: &mut [u64]) -> io::Result<bool> {
     let mut head = [0u8; 8];
-    if io::read_full(fd, &mut head) != 8 {
-        return false;
+    if cases::read_full(file, &mut head)? != 8 {
+        return Ok(false);
     }
     if wire::u32_of(&head) != 1 {
-        return false;
+        return Ok(false);
     }
-    if !read_cases(fd, tally, wire::u32_at(&head, 4)) {
-        return false;
+    if !read_cases(rt, file, tally, wire::u32_at(&head, 4))? {
+        return Ok(false);
     }
-    at_end(fd)
+    at_end(file)
 }
 
-fn main() {
-    let fd = os::open_read(b"cases.bin");
-    if fd < 0 {
-        os::fail(b"cases.bin");
-        return;
-    }
+fn main(rt: HostRuntime) -> io::Result<()> {
+    let mut file = cases::open(&rt, "cases.bin")?;
     let mut tally = [0u64; 23];
-    if !read_list(fd, &mut tally) {
-        io::write_all(STDOUT_FILENO, b"no whole list\n");
+    if !read_list(&rt, &mut file, &mut tally)? {
+        println!(rt; "no whole list")?;
     }
-    libc::close(fd);
-    tally::print(&tally);
+    tally::print(&rt, &tally)
 }

@@ -5,6 +5,8 @@
 // UNKNOWN in so many positions from that place on.
 #![tactic(auto)]
 
+use std::io;
+use std::io::Read;
 use symbol::Symbol;
 
 // Writes the symbol UNKNOWN into each of `n` position records from `at` on.
@@ -18,31 +20,31 @@ fn put_symbols(d: &mut [u8], at: u32, n: u32) {
     }
 }
 
-fn show_case(case: &[u8]) {
-    let mut d = io::large_buffer();
+fn show_case(rt: &impl Print, case: &[u8]) -> io::Result<()> {
+    let mut d = [0u8; 65536];
     wire::copy(&mut d, 0, wire::from(case, 96));
     put_symbols(&mut d, wire::u32_at(case, 16), wire::u32_at(case, 24));
-    cases::tell_label(wire::part(case, 32, wire::u64_of(case) as usize));
+    cases::tell_label(rt, wire::part(case, 32, wire::u64_of(case) as usize))?;
     let sheet = wire::part(&d, 0, wire::u64_at(case, 8) as usize);
-    cases::tell_number(cases::refusal(sheet::check(sheet)));
+    cases::tell_number(rt, cases::refusal(sheet::check(sheet)))
 }
 
 // Reads a case and shows it; false where none is left.
-fn read_case(fd: i32) -> bool {
+fn read_case(rt: &impl Print, file: &mut impl Read) -> io::Result<bool> {
     let mut case = [0u8; 256];
-    if io::read_full(fd, &mut case) != 256 {
-        return false;
+    if cases::read_full(file, &mut case)? != 256 {
+        return Ok(false);
     }
-    show_case(&case);
-    true
+    show_case(rt, &case)?;
+    Ok(true)
 }
 
-fn main() {
-    let fd = cases::open();
+fn main(rt: HostRuntime) -> io::Result<()> {
+    let mut file = cases::open(&rt, "cases.bin")?;
     for _ in 0..1000u32 {
-        if !read_case(fd) {
+        if !read_case(&rt, &mut file)? {
             break;
         }
     }
-    libc::close(fd);
+    Ok(())
 }

@@ -7,11 +7,12 @@
 // and at 24 the label.
 #![tactic(auto)]
 
-use libc::STDOUT_FILENO;
 use marks::{Begun, Marks};
 use reader::Stepped;
 use recovery::recover;
 use recovery::recover::Recovery;
+use std::io;
+use std::io::Read;
 
 // How far a walk came: the marks, the last step's answer, and the number of the reader's next event.
 #[derive(Clone, Copy)]
@@ -21,9 +22,8 @@ struct Walked {
     next: u32,
 }
 
-fn number(text: &[u8], x: u64) {
-    io::write_all(STDOUT_FILENO, text);
-    io::print_decimal(STDOUT_FILENO, x);
+fn number(rt: &impl Print, text: &str, x: u64) -> io::Result<()> {
+    print!(rt; "{text}{x}")
 }
 
 // ---- the walk
@@ -73,113 +73,110 @@ fn refusal(answer: Stepped) -> u64 {
     }
 }
 
-fn tell_words(record: &[u8]) {
-    io::write_all(STDOUT_FILENO, b"\n ");
+fn tell_words(rt: &impl Print, record: &[u8]) -> io::Result<()> {
+    print!(rt; "\n ")?;
     for i in 0..22 {
-        number(b" ", wire::u64_at(record, 8 * i));
+        number(rt, " ", wire::u64_at(record, 8 * i))?;
     }
+    Ok(())
 }
 
-fn tell_same(a: &[u8], b: &[u8]) {
+fn tell_same(rt: &impl Print, a: &[u8], b: &[u8]) -> io::Result<()> {
     if wire::same(a, b) {
-        io::write_all(STDOUT_FILENO, b", marks as recovered");
-        return;
+        return print!(rt; ", marks as recovered");
     }
-    io::write_all(STDOUT_FILENO, b", marks NOT as recovered");
+    print!(rt; ", marks NOT as recovered")
 }
 
-fn tell_marks(walked: Marks, recovered: Marks) {
+fn tell_marks(rt: &impl Print, walked: Marks, recovered: Marks) -> io::Result<()> {
     let mut a = [0u8; 176];
     let mut b = [0u8; 176];
     marks_record::put_marks(&mut a, walked);
     marks_record::put_marks(&mut b, recovered);
-    tell_same(&a, &b);
-    tell_words(&a);
+    tell_same(rt, &a, &b)?;
+    tell_words(rt, &a)
 }
 
 fn recovery_of(book: &[u8], time: i64) -> Recovery {
-    let mut orders = io::buffer();
-    let mut positions = io::buffer();
+    let mut orders = [0u8; 4096];
+    let mut positions = [0u8; 4096];
     recover::reconstruct_state(book, time, &mut orders, &mut positions)
 }
 
-fn tell_refused(recovery: Recovery) {
+fn tell_refused(rt: &impl Print, recovery: Recovery) -> io::Result<()> {
     match recovery {
-        Recovery::Done(_) => number(b", recovery refused ", 0),
-        Recovery::Oversize => number(b", recovery refused ", 1),
-        Recovery::Broken => number(b", recovery refused ", 2),
-        Recovery::NoRoom => number(b", recovery refused ", 3),
+        Recovery::Done(_) => number(rt, ", recovery refused ", 0),
+        Recovery::Oversize => number(rt, ", recovery refused ", 1),
+        Recovery::Broken => number(rt, ", recovery refused ", 2),
+        Recovery::NoRoom => number(rt, ", recovery refused ", 3),
     }
 }
 
-fn tell_recovery(walked: Marks, recovery: Recovery) {
+fn tell_recovery(rt: &impl Print, walked: Marks, recovery: Recovery) -> io::Result<()> {
     let Recovery::Done(r) = recovery else {
-        tell_refused(recovery);
-        return;
+        return tell_refused(rt, recovery);
     };
     let recovered = r.marks;
-    tell_marks(walked, recovered);
+    tell_marks(rt, walked, recovered)
 }
 
-fn tell_walk(w: Walked, recovery: Recovery) {
+fn tell_walk(rt: &impl Print, w: Walked, recovery: Recovery) -> io::Result<()> {
     let answer = w.answer;
     let marks = w.marks;
-    number(b": steps ", w.next as u64);
-    number(b", refusal ", refusal(answer));
-    tell_recovery(marks, recovery);
+    number(rt, ": steps ", w.next as u64)?;
+    number(rt, ", refusal ", refusal(answer))?;
+    tell_recovery(rt, marks, recovery)
 }
 
-fn tell_book(book: &[u8], time: i64) {
+fn tell_book(rt: &impl Print, book: &[u8], time: i64) -> io::Result<()> {
     let recovery = recovery_of(book, time);
     match Marks::new(time) {
-        Begun::Is(first) => tell_walk(walk(book, first, 5000), recovery),
+        Begun::Is(first) => tell_walk(rt, walk(book, first, 5000), recovery)?,
         Begun::Broken => {
-            number(b": no steps, refusal ", 2);
-            tell_refused(recovery);
+            number(rt, ": no steps, refusal ", 2)?;
+            tell_refused(rt, recovery)?;
         }
     }
-    io::write_all(STDOUT_FILENO, b"\n");
+    println!(rt)
 }
 
 // ---- the file
 // Reads the book after its head into lent bytes and tells of it.
-fn tell_read(fd: i32, head: &[u8], room: &mut [u8]) {
-    let n = io::count(wire::u16_at(head, 8) as isize, room);
-    io::read_full(fd, &mut room[..n]);
-    io::write_all(
-        STDOUT_FILENO,
-        wire::part(head, 24, wire::u64_of(head) as usize),
-    );
-    tell_book(wire::part(room, 0, n), wire::i64_at(head, 16));
+fn tell_read(
+    rt: &impl Print,
+    file: &mut impl Read,
+    head: &[u8],
+    room: &mut [u8],
+) -> io::Result<()> {
+    let n = (wire::u16_at(head, 8) as usize).min(room.len());
+    cases::read_full(file, &mut room[..n])?;
+    rt.write_all(wire::part(head, 24, wire::u64_of(head) as usize))?;
+    tell_book(rt, wire::part(room, 0, n), wire::i64_at(head, 16))
 }
 
 // Reads a book and tells of it; false where none is left.
-fn read_book(fd: i32) -> bool {
+fn read_book(rt: &impl Print, file: &mut impl Read) -> io::Result<bool> {
     let mut head = [0u8; 64];
-    if io::read_full(fd, &mut head) != 64 {
-        return false;
+    if cases::read_full(file, &mut head)? != 64 {
+        return Ok(false);
     }
-    let mut room = io::large_buffer();
-    tell_read(fd, &head, &mut room);
-    true
+    let mut room = [0u8; 65536];
+    tell_read(rt, file, &head, &mut room)?;
+    Ok(true)
 }
 
-fn read_books(fd: i32, most: u32) {
+fn read_books(rt: &impl Print, file: &mut impl Read, most: u32) -> io::Result<()> {
     let mut left = most;
     while 0 < left {
-        if !read_book(fd) {
-            return;
+        if !read_book(rt, file)? {
+            return Ok(());
         }
         left -= 1;
     }
+    Ok(())
 }
 
-fn main() {
-    let fd = os::open_read(b"books.bin");
-    if fd < 0 {
-        os::fail(b"books.bin");
-        return;
-    }
-    read_books(fd, 1000);
-    libc::close(fd);
+fn main(rt: HostRuntime) -> io::Result<()> {
+    let mut file = cases::open(&rt, "books.bin")?;
+    read_books(&rt, &mut file, 1000)
 }

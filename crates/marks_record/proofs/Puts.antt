@@ -1,14 +1,10 @@
 -- Numbers of the record written one after the other. About no function.
 -- Assumes nothing.
-use Prim.Native.Nat.{ℕ, ◌+◌, ◌-◌}
-use mathlib.Core.Path.{◌≡◌, refl, sym, ap, ◌∙◌}
+use Prim.Native.Nat.{ℕ, ◌+◌}
+use mathlib.Core.Path.{◌≡◌, sym, ap, ◌∙◌}
 use mathlib.Core.List.{List, ◌++◌, append_assoc}
-use native.Mathlib.Nat.{add_assoc}
-use native.Mathlib.Omega.{arith}
 use lib.ListN.{length, length-append}
 use lib.Seq.{sets}
-use mir.Syntax.{w64}
-use mir.Val.{of_z}
 use Rattle.wire.specs.Le.{bytes_of}
 use Rattle.wire.proofs.Written.{length_bytes_of}
 use Rattle.wire.proofs.Words.{sets_number}

@@ -1,7 +1,7 @@
 -- States are equal when marks except time, positions and orders agree, texts by bytes, an absent text as an empty one, flag values 8 and 16 unread.
 -- Assumes nothing.
-use Rattle.std.specs.Prelude.{ℕ, ◌+◌, List, [], ◌∷◌, Bool, true, false, not, ◌&&◌, eqb, leb, ℤ, length, drop}
-use Rattle.std.specs.Int.{w32, w64}
+use Rattle.std.specs.Prelude.{ℕ, ◌+◌, List, [], ◌∷◌, Bool, true, false, not, ◌&&◌, eqb, leb, ℤ, drop}
+use Rattle.std.specs.Int.{w64}
 use Rattle.std.proofs.Common.{of_z}
 use Rattle.wire.specs.Le.{le, same_bytes}
 use Rattle.wire.specs.Layout.{both_of, sound_if}

@@ -13,7 +13,7 @@ ghost use Rattle.desk_files.specs.Printed.{printed};
 use reply::Replied;
 use std::io::{ErrorKind, Read};
 use std::rt::Files;
-use std::{fs, io};
+use std::{fs, io, str};
 
 // Entry. The reply to the first `n` bytes of `book` and the first `m` of `sheet`, at the start of `out`, with zeros after it; its length is returned. A count
 // above 65,537 stands for the whole buffer. The reply always fits, so the second arm is never taken.
@@ -66,13 +66,24 @@ fn read_file(rt: &impl Eprint, file: &mut impl Read, path: &str, buf: &mut [u8])
 
 // The same of a file by its path. A missing file is read as empty; so is one that cannot be opened, which is said on standard error; one whose
 // reading fails is read as far as it came, and that is said there too.
-fn load<R: Files + Eprint>(rt: &R, path: &str, buf: &mut [u8; 65537]) -> usize {
+fn load_by_text<R: Files + Eprint>(rt: &R, path: &str, buf: &mut [u8; 65537]) -> usize {
     match fs::open(rt, path) {
         Ok(mut file) => read_file(rt, &mut file, path, buf),
         Err(error) => {
             if error.kind() != ErrorKind::NotFound {
                 fail(rt, path, &error);
             }
+            0
+        }
+    }
+}
+
+// The same by the path's bytes. std opens a path that is text: one that is no UTF-8 cannot be opened, which is said as of any other, its bytes escaped.
+fn load<R: Files + Eprint>(rt: &R, path: &[u8], buf: &mut [u8; 65537]) -> usize {
+    match str::from_utf8(path) {
+        Ok(text) => load_by_text(rt, text, buf),
+        Err(error) => {
+            let _ = eprintln!(rt; "{}: {error}", path.escape_ascii());
             0
         }
     }
@@ -86,7 +97,7 @@ fn print(rt: &(impl Print + Eprint), out: &[u8; 65536], len: usize) {
 }
 
 // Reads a book and a sheet by their paths and prints the reply to them.
-pub fn run(rt: &(impl Files + Print + Eprint), book_path: &str, sheet_path: &str) {
+pub fn run(rt: &(impl Files + Print + Eprint), book_path: &[u8], sheet_path: &[u8]) {
     let mut book = [0u8; 65537];
     let n = load(rt, book_path, &mut book);
     let mut sheet = [0u8; 65537];

@@ -3,7 +3,7 @@
 -- Assumes nothing.
 use Prim.Native.Nat.{ℕ, ◌*◌, ◌≤◌}
 use mathlib.Core.Path.{◌≡◌, refl}
-use mathlib.Core.List.{List, [], map}
+use mathlib.Core.List.{List, []}
 use mathlib.Core.Bool.{Bool, true, false}
 use native.Mathlib.Omega.{arith}
 use borrow.Author.Tests.{le-leb, leb-true}
@@ -15,11 +15,9 @@ use Rattle.wire.specs.declared.layout.Layout.{Layout}
 use Rattle.wire.specs.declared.layout.Layout.TheVariants as L
 use Rattle.audit.specs.declared.validate.Verdict.{Verdict}
 use Rattle.recovery.specs.declared.recover.Recovered.{Recovered}
-use Rattle.compare.specs.Report.{discrepancy_kind}
 use Rattle.compare.specs.Compare.{lent_report, lent_layout, done_if, refused_or, comparison, report_out}
 use Rattle.compare.specs.declared.discrepancy.Discrepancy.{Discrepancy}
 use Rattle.compare.specs.declared.Compared.{Compared}
-use Rattle.compare.specs.declared.Comparison.{Comparison}
 use Rattle.compare.specs.declared.Comparison.TheVariants as C
 use Rattle.compare.proofs.Reread.{kinds_held}
 use Rattle.reply.specs.Result.{DeskResult, Refused, Told, by_comparison, compared_result}

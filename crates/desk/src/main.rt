@@ -2,5 +2,5 @@
 #![tactic(auto)]
 
 fn main(rt: HostRuntime) {
-    desk_files::run(&rt, "book.bin", "sheet.bin");
+    desk_files::run(&rt, b"book.bin", b"sheet.bin");
 }

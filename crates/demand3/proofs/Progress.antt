@@ -134,22 +134,22 @@ written_head {c = c} time n first o os {ys} {es} sm m (Of.more x t) d w =
 pub round_prog : {c : Chosen} {text : List ℕ} {n : ℕ} {os : List Order} {ys : List Symbol} {es : List Event} → Small c → Among os ys
     → Each (λ (o : Order). Texted o.symbol) os → NoRepeat os → Written c text n ys es → Prog c text os (orders_after es os)
 unfolding orders_after
-round_prog {os} sm stop t d end = prog_refl os
-round_prog sm (pass {o} {os} m) (Of.more x t) d w = rw (skipped sm o os (among_avoid o m t d.0) w) (keep (round_prog sm m t d.1 w))
-round_prog {c} sm (pick {o} {os} e m) (Of.more x t) d (more {n} time first r w) =
+round_prog {n = n} {os} sm stop t d end = prog_refl os
+round_prog {n = n} sm (pass {o} {os} m) (Of.more x t) d w = rw (skipped sm o os (among_avoid o m t d.0) w) (keep (round_prog {n = n} sm m t d.1 w))
+round_prog {c} {n = n} sm (pick {o} {os} e m) (Of.more x t) d (more time first r w) =
     rw (written_head {c = c} time n first o os sm m (Of.more x t) d w)
-    (shut (entry_reason c (first + length (entry_name c) + o.symbol.len)) e r (round_prog sm m t d.1 w))
+    (shut (entry_reason c (first + length (entry_name c) + o.symbol.len)) e r (round_prog {n = suc n} sm m t d.1 w))
 
 pub round_weight : (w : Symbol → ℕ) {c : Chosen} {text : List ℕ} {n : ℕ} {os : List Order} {ys : List Symbol} {es : List Event} → Small c → Among os ys
     → Each (λ (o : Order). Texted o.symbol) os → NoRepeat os → Written c text n ys es → sum w ys + open_weight w (orders_after es os) ≡ open_weight w os
 unfolding orders_after sum
-round_weight w sm stop t d end = omega arith
-round_weight w {ys} {es} sm (pass {o} {os} m) (Of.more x t) d v =
-    rw (skipped sm o os (among_avoid o m t d.0) v) (omega (arith, weight_both w o os (orders_after es os), round_weight w sm m t d.1 v))
-round_weight w {c} sm (pick {o} {os} e m) (Of.more x t) d (more {n} {y} {ys} {es} time first r v) =
+round_weight w {n = n} sm stop t d end = omega arith
+round_weight w {n = n} {ys} {es} sm (pass {o} {os} m) (Of.more x t) d v =
+    rw (skipped sm o os (among_avoid o m t d.0) v) (omega (arith, weight_both w o os (orders_after es os), round_weight w {n = n} sm m t d.1 v))
+round_weight w {c} {n = n} sm (pick {o} {os} e m) (Of.more x t) d (more {y} {ys} {es} time first r v) =
     let a = entry_reason c (first + length (entry_name c) + o.symbol.len) in
     rw (written_head {c = c} time n first o os sm m (Of.more x t) d v)
-    (omega (arith, weight_open w o os e, weight_shut w (settle c a o) (orders_after es os) (settle_shut c a o), round_weight w sm m t d.1 v))
+    (omega (arith, weight_open w o os e, weight_shut w (settle c a o) (orders_after es os) (settle_shut c a o), round_weight w {n = suc n} sm m t d.1 v))
 
 -- ---- the intents that were reached are among the open ones
 reached_if_lem : {o : Order} {os : List Order} (q : Queried) (rest : List ℕ → List Symbol) → is_intent o ≡ true → ((qs : List ℕ) → Among os (rest qs))

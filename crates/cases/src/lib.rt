@@ -10,12 +10,17 @@ use std::{fs, io};
 use wire::layout::Layout;
 
 // Opens a file in the folder that the program is run in. Where that fails it says so on standard error, and returns the error.
-pub fn open<R: Files + Eprint>(rt: &R, path: &str) -> io::Result<R::File> {
+pub fn open_file<R: Files + Eprint>(rt: &R, path: &str) -> io::Result<R::File> {
     let opened = fs::open(rt, path);
     if let Err(e) = &opened {
         eprintln!(rt; "{path}: {e}")?;
     }
     opened
+}
+
+// The same of `cases.bin`.
+pub fn open<R: Files + Eprint>(rt: &R) -> io::Result<R::File> {
+    open_file(rt, "cases.bin")
 }
 
 // Reads until `buf` is full or the input ends, and returns how many bytes came: they stand at the start of `buf`, and are what the input had next.

@@ -6,31 +6,34 @@
 use std::io;
 use std::rt::Files;
 
-fn case(rt: &(impl Files + Print + Eprint), book: &str, sheet: &str) -> io::Result<()> {
-    println!(rt; "{book} {sheet}")?;
+fn case(rt: &(impl Files + Print + Eprint), book: &[u8], sheet: &[u8]) -> io::Result<()> {
+    rt.write_all(book)?;
+    rt.write_all(b" ")?;
+    rt.write_all(sheet)?;
+    rt.write_all(b"\n")?;
     desk_files::run(rt, book, sheet);
     Ok(())
 }
 
 // Document 01's sample, then books that the desk must read whole, books that it refuses, and a folder in a file's place.
 fn books(rt: &(impl Files + Print + Eprint)) -> io::Result<()> {
-    case(rt, "sample.book", "empty.sheet")?;
-    case(rt, "65536.book", "empty.sheet")?;
-    case(rt, "65537.book", "empty.sheet")?;
-    case(rt, "missing.book", "empty.sheet")?;
-    case(rt, "4.book", "empty.sheet")?;
-    case(rt, "damaged.book", "empty.sheet")?;
-    case(rt, ".", "empty.sheet")
+    case(rt, b"sample.book", b"empty.sheet")?;
+    case(rt, b"65536.book", b"empty.sheet")?;
+    case(rt, b"65537.book", b"empty.sheet")?;
+    case(rt, b"missing.book", b"empty.sheet")?;
+    case(rt, b"4.book", b"empty.sheet")?;
+    case(rt, b"damaged.book", b"empty.sheet")?;
+    case(rt, b".", b"empty.sheet")
 }
 
 // Sheets: a report, one that has no room, and refusals; the book's comes before the sheet's.
 fn sheets(rt: &(impl Files + Print + Eprint)) -> io::Result<()> {
-    case(rt, "65536.book", "orders.sheet")?;
-    case(rt, "positions.book", "largest.sheet")?;
-    case(rt, "sample.book", "65536.sheet")?;
-    case(rt, "sample.book", "65537.sheet")?;
-    case(rt, "sample.book", "missing.sheet")?;
-    case(rt, "missing.book", "65537.sheet")
+    case(rt, b"65536.book", b"orders.sheet")?;
+    case(rt, b"positions.book", b"largest.sheet")?;
+    case(rt, b"sample.book", b"65536.sheet")?;
+    case(rt, b"sample.book", b"65537.sheet")?;
+    case(rt, b"sample.book", b"missing.sheet")?;
+    case(rt, b"missing.book", b"65537.sheet")
 }
 
 fn main(rt: HostRuntime) -> io::Result<()> {

@@ -140,7 +140,7 @@ fn read_case(rt: &impl Print, file: &mut impl Read) -> io::Result<bool> {
 }
 
 fn main(rt: HostRuntime) -> io::Result<()> {
-    let mut file = cases::open(&rt, "cases.bin")?;
+    let mut file = cases::open(&rt)?;
     for _ in 0..1000u32 {
         if !read_case(&rt, &mut file)? {
             break;

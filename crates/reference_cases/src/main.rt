@@ -58,6 +58,6 @@ fn read_examples(rt: &impl Print, file: &mut impl Read, most: u32) -> io::Result
 }
 
 fn main(rt: HostRuntime) -> io::Result<()> {
-    let mut file = cases::open(&rt, "examples.bin")?;
+    let mut file = cases::open_file(&rt, "examples.bin")?;
     read_examples(&rt, &mut file, 1000)
 }

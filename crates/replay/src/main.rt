@@ -94,7 +94,7 @@ fn read_list(rt: &impl Print, file: &mut impl Read, tally: &mut [u64]) -> io::Re
 }
 
 fn main(rt: HostRuntime) -> io::Result<()> {
-    let mut file = cases::open(&rt, "cases.bin")?;
+    let mut file = cases::open(&rt)?;
     let mut tally = [0u64; 23];
     if !read_list(&rt, &mut file, &mut tally)? {
         println!(rt; "no whole list")?;

@@ -177,6 +177,6 @@ fn read_books(rt: &impl Print, file: &mut impl Read, most: u32) -> io::Result<()
 }
 
 fn main(rt: HostRuntime) -> io::Result<()> {
-    let mut file = cases::open(&rt, "books.bin")?;
+    let mut file = cases::open_file(&rt, "books.bin")?;
     read_books(&rt, &mut file, 1000)
 }

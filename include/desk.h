@@ -268,22 +268,22 @@ int32_t desk_truncated_i32(int64_t n);
  * What memset, memcpy and memmove take below their return address is not counted. A dynamic loader that binds them at their first call takes its own
  * stack there; link with -z now or statically against that.
  * The figure for each call:
- * desk_check_book                          192
+ * desk_check_book                          128
  * desk_check_sheet                         128
- * desk_reply                           206,080
+ * desk_reply                           205,888
  * desk_validate_checkpoints                256
  * desk_max_checkpoint_sequence             256
- * desk_check_window_already_complete       320
- * desk_reconstruct_state                 2,368
- * desk_step                              1,216
- * desk_recovery_action                     704
- * desk_states_equal                      1,536
- * desk_compare_broker_state                512
- * desk_reconcile_incomplete_intents        960
- * desk_join                                448
- * desk_round                             2,304
- * desk_reconcile                        67,264
- * desk_held_value                       33,088
+ * desk_check_window_already_complete       256
+ * desk_reconstruct_state                 1,856
+ * desk_step                              1,536
+ * desk_recovery_action                     576
+ * desk_states_equal                      1,408
+ * desk_compare_broker_state                448
+ * desk_reconcile_incomplete_intents        896
+ * desk_join                                384
+ * desk_round                             1,792
+ * desk_reconcile                        67,136
+ * desk_held_value                       34,048
  * desk_f64_to_fixed_checked                 64
  * desk_f64_cents_checked                    64
  * desk_f64_bits                             64
@@ -295,7 +295,7 @@ int32_t desk_truncated_i32(int64_t n);
  * desk_sign_extended                        64
  * desk_truncated_i32                        64
  */
-enum { DESK_STACK = 206080 };
+enum { DESK_STACK = 205888 };
 
 #ifdef __cplusplus
 }

@@ -18,7 +18,7 @@ library() {
         return
     fi
     mkdir -p "$top/target"
-    echo "rt lib: proves the library; some 9 to 18 minutes of processor time the first time, then seconds" >&2
+    echo "rt lib: proves the library; many minutes of processor time the first time, then seconds" >&2
     (cd "$top/crates/exports" && rt lib 2>&1) | tee "$top/target/staticlib.log" |
         awk '/^crate / { name = $2 } /^logic=proved / { print name, $0; fflush() }' >&2 ||
         { tail -5 "$top/target/staticlib.log" >&2; exit 2; }

@@ -1,5 +1,4 @@
 -- `passes::unlisted`: by the search.
--- a position's parts, by its bytes
 use Prim.Native.Nat.{ℕ}
 use mathlib.Core.Path.{◌≡◌, refl, ap, ◌∙◌}
 use mathlib.Core.List.{List}
@@ -12,6 +11,7 @@ use Rattle.symbol.specs.Symbol.{field_symbol}
 use Rattle.records.specs.Record.{position_of}
 use Rattle.compare.proofs.passes.unlisted.Goals as goal
 
+-- a position's parts, by its bytes
 symbol_of_lem : (s : List ℕ) → field_symbol s ≡ (position_of s).symbol
 unfolding position_of
 symbol_of_lem s = refl

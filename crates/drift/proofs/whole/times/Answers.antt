@@ -1,5 +1,4 @@
 -- `whole::times`: the test says whether the product is an i64. Signed numbers are read back from their bits.
--- the tests, read back
 use mathlib.Core.Path.{◌≡◌, sym, ◌∙◌}
 use mathlib.Core.Bool.{Bool, true, false}
 use lib.IntN.{ℤ, pos, negsuc, ◌*ℤ◌}
@@ -11,6 +10,7 @@ use Rattle.drift.specs.Entry.{fits64}
 use Rattle.drift.proofs.Integers.{quot_fits, quot_fits_below, times_above, times_below, fits_of, is_whole, is_over}
 use Rattle.drift.proofs.whole.times.Goals as goal
 
+-- the tests, read back
 above : (a b : ℤ) (v : Bool) → SFits w64 a → SFits w64 b → lt_z (pos 0) b ≡ true → le_z (pos 0) (to_z w64 (of_z w64 a)) ≡ true
     → le_z (to_z w64 (of_z w64 a)) (to_z w64 (of_z w64 (quot_z (pos 9223372036854775807) (to_z w64 (of_z w64 b))))) ≡ v → fits64 (a *ℤ b) ≡ v
 above a b v f g p s t =

@@ -1,5 +1,4 @@
 -- `types::fixed::f64_to_fixed_checked` meets its contract: the product, which the format holds, is the value of its own bits. Assumes nothing.
--- the steps after the multiplication
 use mathlib.Core.Path.{sym, ap, ◌∙◌}
 use mathlib.Core.Bool.{Bool}
 use lib.Ieee.{Float, binary64, of_bits, mul}
@@ -9,6 +8,7 @@ use Rattle.types.specs.Fixed.{round_away, in_range, if_finite, to_fixed}
 use Rattle.types.specs.declared.fixed.Fixed.{Fixed}
 use Rattle.types.proofs.fixed.f64_to_fixed_checked.Goals as goal
 
+-- the steps after the multiplication
 abbrev steps : Float → Fixed
 steps x = in_range (round_away binary64 x)
 

@@ -2,6 +2,8 @@
 use Rattle.std.specs.Prelude.{ℕ, List, cond, eqb, ltb, replicate}
 use Rattle.std.proofs.lemmas.List.Edits.{sets}
 use Rattle.wire.specs.Le.{bytes_of}
+use Rattle.wire.specs.Layout.{refusal_number}
+use Rattle.wire.specs.declared.refusal.Refusal.{Refusal}
 use Rattle.answers.specs.declared.Numbers.{Numbers}
 
 -- ---- an answer of so many bytes (size) where so many are lent (room)
@@ -27,3 +29,7 @@ numbers n = record { refusal = n.0; a = n.1; b = n.2 }
 
 abbrev pub number_alone : ℕ × ℕ → ℕ × ℕ × ℕ
 number_alone n = (n.0, n.1, 0)
+
+-- what a refused answer carries
+abbrev pub refused_numbers : Refusal → Numbers
+refused_numbers r = numbers (refusal_number r, 0, 0)

@@ -6,14 +6,15 @@
 #![tactic(auto)]
 
 ghost use Rattle.std.specs.Prelude.{◌≡◌, length};
-ghost use Rattle.wire.specs.Layout.{layout_number};
-ghost use Rattle.answers.specs.Answer.{room_number, unless_short, answer_number, answer_bytes};
+ghost use Rattle.answers.specs.Answer.{room_number, unless_short, answer_number, answer_bytes, refused_numbers};
+ghost use Rattle.wire.specs.Layout.{refused};
+
+use wire::refusal::Refusal;
 
 pub mod fixed_answer;
 
-use wire::layout::Layout;
-
-// A refusal's number and the two numbers of an answer.
+// A refusal's number and the two numbers of an answer: numbers, as C gets them. Each sort of answer has a function of two arms that makes them, most in the
+// `*_answers` crates: one function over a closure would say both numbers in its clause and the closure's, and each promise has its own definition.
 #[derive(Clone, Copy)]
 pub struct Numbers {
     pub refusal: u32,
@@ -21,56 +22,26 @@ pub struct Numbers {
     pub b: u64,
 }
 
-// Refused answers, by the names of their refusals.
-pub const OVERSIZE: Numbers = Numbers {
-    refusal: 1,
-    a: 0,
-    b: 0,
-};
+// The numbers of an answer that is refused.
+impl From<Refusal> for Numbers {
+    ghost from_gives = { λ r n. n ≡ refused_numbers r };
 
-pub const BROKEN: Numbers = Numbers {
-    refusal: 2,
-    a: 0,
-    b: 0,
-};
+    fn from(r: Refusal) -> Numbers {
+        Numbers {
+            refusal: r.into(),
+            a: 0,
+            b: 0,
+        }
+    }
+}
 
-pub const NO_ROOM: Numbers = Numbers {
-    refusal: 3,
-    a: 0,
-    b: 0,
-};
-
-pub const NO_NUMBERS: Numbers = Numbers {
-    refusal: 8,
-    a: 0,
-    b: 0,
-};
-
-pub const BAD_WEIGHT: Numbers = Numbers {
-    refusal: 11,
-    a: 0,
-    b: 0,
-};
-
-pub const OUT_OF_RANGE: Numbers = Numbers {
-    refusal: 12,
-    a: 0,
-    b: 0,
-};
-
-pub const TOO_MANY: Numbers = Numbers {
-    refusal: 13,
-    a: 0,
-    b: 0,
-};
-
-pub fn layout_number(r: Layout) -> u32
-    ensures { result ≡ layout_number r }
+// The number of a test's refusal, 0 where there is none. `cases::refusal` is for the programs, which the library does not stand on.
+pub fn refused(r: Result<(), Refusal>) -> u32
+    ensures { result ≡ refused r }
 {
     match r {
-        Layout::Sound => 0,
-        Layout::Oversize => 1,
-        Layout::Broken => 2,
+        Ok(()) => 0,
+        Err(refusal) => refusal.into(),
     }
 }
 
@@ -92,7 +63,7 @@ pub fn within(answer: &mut [u8], size: usize, refusal: u32) -> u32
     refusal
 }
 
-// Writes two numbers in sixteen bytes and returns the answer's number.
+// Writes two numbers in sixteen bytes and returns the answer's number. `give_value` is of one number in eight: both have a usual room without a test.
 pub fn give(n: Numbers, answer: &mut [u8]) -> u32
     ensures { (result ≡ answer_number n.refusal (length answer.old)) × (answer.new ≡ answer_bytes n.a n.b (length answer.old)) }
 {

@@ -1,5 +1,6 @@
 -- The addendum is a sound book of the entries, not too large, and what recovery reads from it are the entries. About no function.
 -- Assumes nothing.
+use Rattle.types.specs.declared.order.OrderId.{OrderId}
 use Prim.Native.Nat.{ℕ, suc, ◌+◌, ◌*◌, ◌^◌, ◌≤◌, ◌<◌}
 use mathlib.Core.Path.{◌≡◌, refl, sym, ap, ◌∙◌}
 use mathlib.Core.List.{List, [], ◌∷◌, ◌++◌, append_assoc}
@@ -10,7 +11,6 @@ use lib.ListN.{length, length-append}
 use lib.Seq.{drop_at}
 use Rattle.wire.specs.Le.{bytes_of}
 use Rattle.wire.specs.Table.{every, records}
-use Rattle.wire.specs.declared.layout.Layout.TheVariants as L
 use Rattle.wire.proofs.Records.{Each, none, more}
 use Rattle.wire.proofs.Written.{Bytes}
 use Rattle.wire.proofs.Written as Wr
@@ -26,8 +26,6 @@ use Rattle.book.specs.Time.{time_layout}
 use Rattle.intents.proofs.Entries.{entry_size}
 use Rattle.intents.proofs.Walks.{table_size}
 use Rattle.intents.proofs.Addenda.{addendum_size}
-use Rattle.intents.specs.declared.Chosen.{Chosen}
-use Rattle.intents.specs.declared.Chosen.TheVariants as C
 use Rattle.demand3.proofs.Entries.{Texted, entry_event, entry_events}
 use Rattle.join.proofs.BookOf.{within, ReadsAs, book_reads, book_sound}
 use Rattle.symbol.proofs.Text.{bytes_take}
@@ -35,24 +33,25 @@ use Rattle.sound_state.proofs.Tables.{bytes_if_lem}
 use Rattle.join.proofs.MovedTables.{bytes_append, bytes_number, all, every_all}
 use Rattle.demand3.proofs.JoinLayout.{bytes_book}
 use Rattle.demand3.proofs.EntryBytes.{IdFits, entry_read, entry_passes, bytes_entry}
+use Rattle.std.specs.Prelude.{Some, None, Ok, Option}
 
 -- ---- the table of the entries
-unfoldable each_entry : {A : Type 0} → Chosen → (ℕ → ℕ → Symbol → A) → ℕ → ℕ → List Symbol → List A
+unfoldable each_entry : {A : Type 0} → Option OrderId → (ℕ → ℕ → Symbol → A) → ℕ → ℕ → List Symbol → List A
 each_entry c g number first [] = []
 each_entry c g number first (y ∷ ys) = g number first y ∷ each_entry c g (suc number) (first + length (entry_text c y)) ys
 
-each_event : (c : Chosen) (time : ℤ) (number first : ℕ) (ys : List Symbol) → each_entry c (entry_event c time) number first ys ≡ entry_events c time number first ys
+each_event : (c : (Option OrderId)) (time : ℤ) (number first : ℕ) (ys : List Symbol) → each_entry c (entry_event c time) number first ys ≡ entry_events c time number first ys
 unfolding each_entry entry_events
 each_event c time number first [] = refl
 each_event c time number first (y ∷ ys) =
     ap (λ (es : List Event). entry_event c time number first y ∷ es) (each_event c time (suc number) (first + length (entry_text c y)) ys)
 
-each_true : (c : Chosen) (number first : ℕ) (ys : List Symbol) → all (each_entry c (λ (n f : ℕ) (y : Symbol). true) number first ys) ≡ true
+each_true : (c : (Option OrderId)) (number first : ℕ) (ys : List Symbol) → all (each_entry c (λ (n f : ℕ) (y : Symbol). true) number first ys) ≡ true
 unfolding each_entry all
 each_true c number first [] = refl
 each_true c number first (y ∷ ys) = each_true c (suc number) (first + length (entry_text c y)) ys
 
-module _ (c : Chosen) (time : ℤ) where
+module _ (c : (Option OrderId)) (time : ℤ) where
   pub bytes_table : (number first : ℕ) (ys : List Symbol) → Bytes (entry_table c time number first ys)
   unfolding entry_table
   bytes_table number first [] = Wr.none
@@ -81,17 +80,17 @@ module _ (c : Chosen) (time : ℤ) where
         (ap (λ (es : List A). g number first y ∷ es) (table_read (suc number) ys (p ++ entry_text c y) t each split' next))
 
 -- ---- the texts are bytes
-bytes_name : (c : Chosen) → Bytes (entry_name c)
+bytes_name : (c : (Option OrderId)) → Bytes (entry_name c)
 unfolding event_name all_of
-bytes_name (C.Is id) = bytes_if_lem (event_name OrderSubmitted) tt
-bytes_name C.Nothing = bytes_if_lem (event_name OrderFailed) tt
+bytes_name (Some id) = bytes_if_lem (event_name OrderSubmitted) tt
+bytes_name None = bytes_if_lem (event_name OrderFailed) tt
 
-bytes_reason : (c : Chosen) → Bytes (reason_text c)
+bytes_reason : (c : (Option OrderId)) → Bytes (reason_text c)
 unfolding all_of
-bytes_reason (C.Is id) = Wr.none
-bytes_reason C.Nothing = bytes_if_lem (reason_text C.Nothing) tt
+bytes_reason (Some id) = Wr.none
+bytes_reason None = bytes_if_lem (reason_text None) tt
 
-pub bytes_texts : (c : Chosen) (ys : List Symbol) → Bytes (entry_texts c ys)
+pub bytes_texts : (c : (Option OrderId)) (ys : List Symbol) → Bytes (entry_texts c ys)
 unfolding entry_texts entry_text
 bytes_texts c [] = Wr.none
 bytes_texts c (y ∷ ys) =
@@ -100,7 +99,7 @@ bytes_texts c (y ∷ ys) =
     (bytes_texts c ys)
 
 -- ---- the addendum
-module _ (c : Chosen) (time : ℤ) (last : ℕ) (ys : List Symbol) where
+module _ (c : (Option OrderId)) (time : ℤ) (last : ℕ) (ys : List Symbol) where
   pub bytes_addendum : Bytes (addendum c time last ys)
   unfolding addendum
   bytes_addendum =
@@ -115,7 +114,7 @@ module _ (c : Chosen) (time : ℤ) (last : ℕ) (ys : List Symbol) where
     addendum_reads =
         book_reads (length ys) 0 (entry_table c time (suc last) 0 ys) [] (entry_texts c ys) (table_size c time (suc last) 0 ys) refl below
 
-    module _ (id : IdFits c) (valid : time_layout time ≡ L.Sound) (each : Each Texted ys) (room : last + length ys < 2 ^ 64) where
+    module _ (id : IdFits c) (valid : time_layout time ≡ (Ok tt)) (each : Each Texted ys) (room : last + length ys < 2 ^ 64) where
       text_small : length (entry_texts c ys) < 2 ^ 32
       text_small = omega (arith, below)
 
@@ -132,7 +131,7 @@ module _ (c : Chosen) (time : ℤ) (last : ℕ) (ys : List Symbol) where
           (suc last) ys [] text each refl room')
           ∙ each_true c (suc last) 0 ys
 
-      pub addendum_sound : book_layout (addendum c time last ys) ≡ L.Sound
+      pub addendum_sound : book_layout (addendum c time last ys) ≡ (Ok tt)
       unfolding addendum every
       addendum_sound =
           let e : 24 + 240 * length ys + length (entry_texts c ys) ≡ 24 + 240 * length ys + 64 * 0 + length (entry_texts c ys) = omega arith in

@@ -1,10 +1,11 @@
 -- An entry's bytes: what they are read as, and that they pass the layout of a book whose text holds the entry's. About no function.
 -- Assumes nothing.
+use Rattle.types.specs.declared.order.OrderId.{OrderId}
+use Rattle.std.specs.Prelude.{None}
 use Prim.Native.Nat.{ℕ, ◌+◌, ◌*◌, ◌%◌, ◌/◌, ◌^◌, ◌≤◌, ◌<◌}
 use mathlib.Core.Path.{◌≡◌, refl, sym, ap, ◌∙◌}
 use mathlib.Core.List.{List, [], ◌++◌, append_assoc, append-nil}
 use mathlib.Core.Bool.{Bool, true, false, cond, ◌&&◌}
-use mathlib.Core.Option.{none}
 use native.Mathlib.Omega.{arith}
 use lib.Dec.{ltb, lit<}
 use lib.IntN.{ℤ, pos, negsuc}
@@ -18,29 +19,21 @@ use mir.ValLaws.{to_z-of_z}
 use Rattle.wire.specs.Le.{le, bytes_of, same_bytes}
 use Rattle.wire.specs.Table.{every}
 use Rattle.wire.specs.Layout.{sound_if}
-use Rattle.wire.specs.declared.layout.Layout.TheVariants as L
 use Rattle.wire.proofs.Written.{Bytes, le_bytes_of}
 use Rattle.symbol.specs.declared.Symbol.{Symbol}
 use Rattle.wire.proofs.Bools.{and_right}
-use Rattle.cell.specs.declared.AsStr.TheVariants as Str
-use Rattle.cell.specs.declared.AsI64.TheVariants as I64
-use Rattle.cell.specs.declared.AsF64.TheVariants as F64
-use Rattle.cell.specs.declared.AsBool.TheVariants as B
-use Rattle.book.specs.declared.event.SequenceNumber.TheVariants as N
 use Rattle.cell.specs.Cell.{cell_by, cell_of, as_str, as_i64}
 use Rattle.cell.specs.declared.Cell.TheVariants.{None}
 use Rattle.book.specs.Layout.{latest, payload_ok, cell_ok, window_ok, event_ok}
 use Rattle.checkpoint.specs.Checkpoint.{event_name, checkpoints, named_among, named}
-use Rattle.checkpoint.specs.declared.Named.TheVariants as K
 use Rattle.effects.specs.Event.{bytes_of_text, event_of}
 use Rattle.intents.specs.Intents.{symbol_text, entry_name, reason_text, entry_text, cell_bytes, no_cell, id_cell_bytes, reason_cell_bytes, entry_bytes}
 use Rattle.book.specs.Time.{time_layout}
-use Rattle.intents.specs.declared.Chosen.{Chosen}
-use Rattle.intents.specs.declared.Chosen.TheVariants as C
 use Rattle.demand3.proofs.Entries.{Texted, entry_checkpoint, entry_id, entry_reason, entry_event}
 use Rattle.sound_state.proofs.Tables.{and_both}
 use Rattle.join.proofs.MovedTables.{bytes_append, bytes_number}
 use Rattle.join.proofs.MovedEvents.{passes}
+use Rattle.std.specs.Prelude.{Some, Ok, Option}
 
 -- ---- a cell that was written
 module _ (k p : ℕ) (t : List ℕ) (hk : k < 2 ^ 64) (hp : p < 2 ^ 64) where
@@ -74,35 +67,35 @@ event_with first len number time k0 p0 k5 p5 k6 p6 =
     bytes_of 4 first ++ bytes_of 4 len ++ bytes_of 4 1 ++ bytes_of 4 0 ++ bytes_of 8 number ++ bytes_of 8 time ++ cell_bytes k0 p0 ++ no_cell ++ no_cell
     ++ no_cell ++ no_cell ++ cell_bytes k5 p5 ++ cell_bytes k6 p6 ++ no_cell ++ no_cell ++ no_cell ++ no_cell ++ no_cell ++ cell_bytes 5 1
 
-abbrev id_kind : Chosen → ℕ
-id_kind (C.Is id) = cond (ltb id.0 (2 ^ 63)) 1 2
-id_kind C.Nothing = 0
+abbrev id_kind : Option OrderId → ℕ
+id_kind (Some id) = cond (ltb id.0 (2 ^ 63)) 1 2
+id_kind None = 0
 
-abbrev id_payload : Chosen → ℕ
-id_payload (C.Is id) = id.0
-id_payload C.Nothing = 0
+abbrev id_payload : Option OrderId → ℕ
+id_payload (Some id) = id.0
+id_payload None = 0
 
-abbrev reason_kind : Chosen → ℕ
-reason_kind (C.Is id) = 0
-reason_kind C.Nothing = 4
+abbrev reason_kind : Option OrderId → ℕ
+reason_kind (Some id) = 0
+reason_kind None = 4
 
-abbrev reason_payload : Chosen → ℕ → ℕ
-reason_payload (C.Is id) first = 0
-reason_payload C.Nothing first = first + 2 ^ 32 * length (reason_text C.Nothing)
+abbrev reason_payload : Option OrderId → ℕ → ℕ
+reason_payload (Some id) first = 0
+reason_payload None first = first + 2 ^ 32 * length (reason_text None)
 
 cond_cell : (t : Bool) (x : ℕ) → cond t (cell_bytes 1 x) (cell_bytes 2 x) ≡ cell_bytes (cond t 1 2) x
 cond_cell true x = refl
 cond_cell false x = refl
 
-id_plain : (c : Chosen) → id_cell_bytes c ≡ cell_bytes (id_kind c) (id_payload c)
-id_plain (C.Is id) = cond_cell (ltb id.0 (2 ^ 63)) id.0
-id_plain C.Nothing = refl
+id_plain : (c : (Option OrderId)) → id_cell_bytes c ≡ cell_bytes (id_kind c) (id_payload c)
+id_plain (Some id) = cond_cell (ltb id.0 (2 ^ 63)) id.0
+id_plain None = refl
 
-reason_plain : (c : Chosen) (first : ℕ) → reason_cell_bytes c first ≡ cell_bytes (reason_kind c) (reason_payload c first)
-reason_plain (C.Is id) first = refl
-reason_plain C.Nothing first = refl
+reason_plain : (c : (Option OrderId)) (first : ℕ) → reason_cell_bytes c first ≡ cell_bytes (reason_kind c) (reason_payload c first)
+reason_plain (Some id) first = refl
+reason_plain None first = refl
 
-entry_plain : (c : Chosen) (time : ℤ) (number first : ℕ) (y : Symbol) → entry_bytes c time number first y
+entry_plain : (c : (Option OrderId)) (time : ℤ) (number first : ℕ) (y : Symbol) → entry_bytes c time number first y
     ≡ event_with first (length (entry_name c)) number (of_z w64 time) 4 (first + length (entry_name c) + 2 ^ 32 * y.len) (id_kind c) (id_payload c)
     (reason_kind c) (reason_payload c (first + length (entry_name c) + y.len))
 unfolding entry_bytes event_with
@@ -181,19 +174,19 @@ module _ (first len number time k0 p0 k5 p5 k6 p6 : ℕ) where
     with_read : (rows text : List ℕ) → event_of rows text bytes
         ≡ record {
           checkpoint = named (take len (drop first text));
-          number = N.Is number;
+          number = Some number;
           time = to_z w64 time;
           symbol = bytes_of_text text (as_str (cell_by k0 p0));
-          action = Str.Nothing;
-          client = Str.Nothing;
-          shares = I64.Nothing;
-          limit = F64.Nothing;
+          action = None;
+          client = None;
+          shares = None;
+          limit = None;
           id = as_i64 (cell_by k5 p5);
           reason = as_str (cell_by k6 p6);
-          equity = F64.Nothing;
-          success = B.Nothing;
-          positions = none;
-          orders = none;
+          equity = None;
+          success = None;
+          positions = None;
+          orders = None;
         }
     with_read rows text =
         let z = none_at in
@@ -229,7 +222,7 @@ module _ (first len number time k0 p0 k5 p5 k6 p6 : ℕ) where
         })
 
 -- ---- a time of an event's range, and its bits
-sound_true : (b : Bool) → sound_if b ≡ L.Sound → b ≡ true
+sound_true : (b : Bool) → sound_if b ≡ (Ok tt) → b ≡ true
 sound_true true h = refl
 sound_true false h = let z : ◌≡◌ {A = ℕ} 0 1 = cc in absurd (omega arith)
 
@@ -237,7 +230,7 @@ pub record TimeBits (time : ℤ) : Type 0 where
   pub most : of_z w64 time ≤ latest
   pub back : to_z w64 (of_z w64 time) ≡ time
 
-pub time_bits : (time : ℤ) → time_layout time ≡ L.Sound → TimeBits time
+pub time_bits : (time : ℤ) → time_layout time ≡ (Ok tt) → TimeBits time
 time_bits (pos n) h =
     let b = sound_true (le_z (pos 0) (pos n) && le_z (pos n) (pos latest)) h in
     let l : n ≤ latest = leb-true n latest (and_right (le_z (pos 0) (pos n)) (le_z (pos n) (pos latest)) b) in
@@ -246,31 +239,31 @@ time_bits (pos n) h =
 time_bits (negsuc n) h = let z : ◌≡◌ {A = ℕ} 0 1 = cc in absurd (omega arith)
 
 -- ---- a chosen id is a u64
-abbrev pub IdFits : Chosen → Type 0
-IdFits (C.Is id) = id.0 < 2 ^ 64
-IdFits C.Nothing = Unit
+abbrev pub IdFits : Option OrderId → Type 0
+IdFits (Some id) = id.0 < 2 ^ 64
+IdFits None = Unit
 
-id_small : (c : Chosen) → IdFits c → id_payload c < 2 ^ 64
-id_small (C.Is id) h = h
-id_small C.Nothing h = lit< tt
+id_small : (c : (Option OrderId)) → IdFits c → id_payload c < 2 ^ 64
+id_small (Some id) h = h
+id_small None h = lit< tt
 
 cond_small : (t : Bool) → cond t 1 2 < 2 ^ 64
 cond_small true = lit< tt
 cond_small false = lit< tt
 
-kind_small : (c : Chosen) → id_kind c < 2 ^ 64
-kind_small (C.Is id) = cond_small (ltb id.0 (2 ^ 63))
-kind_small C.Nothing = lit< tt
+kind_small : (c : (Option OrderId)) → id_kind c < 2 ^ 64
+kind_small (Some id) = cond_small (ltb id.0 (2 ^ 63))
+kind_small None = lit< tt
 
 big_if : (t : Bool) (rows text x : ℕ) → (t ≡ false → 2 ^ 63 ≤ x) → payload_ok rows text (cond t 1 2) x ≡ true
 unfolding payload_ok
 big_if true rows text x h = refl
 big_if false rows text x h = le-leb (2 ^ 63) x (h refl)
 
-id_payload_ok : (c : Chosen) (rows text : ℕ) → payload_ok rows text (id_kind c) (id_payload c) ≡ true
+id_payload_ok : (c : (Option OrderId)) (rows text : ℕ) → payload_ok rows text (id_kind c) (id_payload c) ≡ true
 unfolding payload_ok
-id_payload_ok (C.Is id) rows text = big_if (ltb id.0 (2 ^ 63)) rows text id.0 (ltb-false id.0 (2 ^ 63))
-id_payload_ok C.Nothing rows text = refl
+id_payload_ok (Some id) rows text = big_if (ltb id.0 (2 ^ 63)) rows text id.0 (ltb-false id.0 (2 ^ 63))
+id_payload_ok None rows text = refl
 
 -- ---- a text reference as a payload
 module _ (first len : ℕ) (f : first < 2 ^ 32) where
@@ -284,7 +277,7 @@ module _ (first len : ℕ) (f : first < 2 ^ 32) where
   unfolding payload_ok
   ref_ok rows text h = rw (ref_first, ref_len) (le-leb (first + len) text h)
 
-  ref_str : as_str (cell_by 4 (first + 2 ^ 32 * len)) ≡ Str.Is (record { first = first; len = len })
+  ref_str : as_str (cell_by 4 (first + 2 ^ 32 * len)) ≡ Some (record { first = first; len = len })
   unfolding cell_by
   ref_str = rw (ref_first, ref_len)
 
@@ -292,7 +285,7 @@ module _ (first len : ℕ) (f : first < 2 ^ 32) where
 part_mid : (o l : ℕ) (p x q t : List ℕ) → t ≡ p ++ (x ++ q) → length p ≡ o → length x ≡ l → take l (drop o t) ≡ x
 part_mid o l p x q t e f g = rw (e, drop_at p (x ++ q) o f, take_at x q l g)
 
-module _ (c : Chosen) (y : Symbol) (texted : Texted y) where
+module _ (c : (Option OrderId)) (y : Symbol) (texted : Texted y) where
   pub length_text : length (entry_text c y) ≡ length (entry_name c) + y.len + length (reason_text c)
   unfolding entry_text
   length_text = length-append (entry_name c) (symbol_text y ++ reason_text c) ∙ omega (arith, length-append (symbol_text y) (reason_text c), texted.len)
@@ -319,39 +312,39 @@ module _ (c : Chosen) (y : Symbol) (texted : Texted y) where
     text_in = omega (arith, ap length split, length-append p (entry_text c y ++ q), length-append (entry_text c y) q, length_text)
 
 -- ---- the reason, the id and the name of an entry
-reason_small : (c : Chosen) (first : ℕ) → first < 2 ^ 32 → reason_payload c first < 2 ^ 64
-reason_small (C.Is id) first h = lit< tt
-reason_small C.Nothing first h = omega arith
+reason_small : (c : (Option OrderId)) (first : ℕ) → first < 2 ^ 32 → reason_payload c first < 2 ^ 64
+reason_small (Some id) first h = lit< tt
+reason_small None first h = omega arith
 
-reason_kind_small : (c : Chosen) → reason_kind c < 2 ^ 64
-reason_kind_small (C.Is id) = lit< tt
-reason_kind_small C.Nothing = lit< tt
+reason_kind_small : (c : (Option OrderId)) → reason_kind c < 2 ^ 64
+reason_kind_small (Some id) = lit< tt
+reason_kind_small None = lit< tt
 
-reason_ok : (c : Chosen) (first rows text : ℕ) → first < 2 ^ 32 → first + length (reason_text c) ≤ text
+reason_ok : (c : (Option OrderId)) (first rows text : ℕ) → first < 2 ^ 32 → first + length (reason_text c) ≤ text
     → payload_ok rows text (reason_kind c) (reason_payload c first) ≡ true
 unfolding payload_ok
-reason_ok (C.Is id) first rows text f h = refl
-reason_ok C.Nothing first rows text f h = ref_ok first (length (reason_text C.Nothing)) f rows text h
+reason_ok (Some id) first rows text f h = refl
+reason_ok None first rows text f h = ref_ok first (length (reason_text None)) f rows text h
 
-reason_str : (c : Chosen) (first : ℕ) → first < 2 ^ 32 → as_str (cell_by (reason_kind c) (reason_payload c first)) ≡ entry_reason c first
+reason_str : (c : (Option OrderId)) (first : ℕ) → first < 2 ^ 32 → as_str (cell_by (reason_kind c) (reason_payload c first)) ≡ entry_reason c first
 unfolding cell_by
-reason_str (C.Is id) first f = refl
-reason_str C.Nothing first f = ref_str first (length (reason_text C.Nothing)) f
+reason_str (Some id) first f = refl
+reason_str None first f = ref_str first (length (reason_text None)) f
 
-id_back : (c : Chosen) → IdFits c → as_i64 (cell_by (id_kind c) (id_payload c)) ≡ entry_id c
+id_back : (c : (Option OrderId)) → IdFits c → as_i64 (cell_by (id_kind c) (id_payload c)) ≡ entry_id c
 id_back c h =
     sym
     (ap (λ (s : List ℕ). as_i64 (cell_of s)) (id_plain c ∙ sym (append-nil (cell_bytes (id_kind c) (id_payload c))))
     ∙ ap as_i64 (cell_written (id_kind c) (id_payload c) [] (kind_small c) (id_small c h)))
 
-name_back : (c : Chosen) → named (entry_name c) ≡ K.Is (entry_checkpoint c)
+name_back : (c : (Option OrderId)) → named (entry_name c) ≡ Some (entry_checkpoint c)
 unfolding named named_among checkpoints event_name same_bytes
-name_back (C.Is id) = refl
-name_back C.Nothing = refl
+name_back (Some id) = refl
+name_back None = refl
 
 -- ---- an entry whose text stands after p in the book's
-module _ (c : Chosen) (time : ℤ) (number : ℕ) (y : Symbol) (texted : Texted y) (p q text : List ℕ) (split : text ≡ p ++ (entry_text c y ++ q))
-    (fits : length text < 2 ^ 32) (id : IdFits c) (small : number < 2 ^ 64) (valid : time_layout time ≡ L.Sound) (t : List ℕ) where
+module _ (c : (Option OrderId)) (time : ℤ) (number : ℕ) (y : Symbol) (texted : Texted y) (p q text : List ℕ) (split : text ≡ p ++ (entry_text c y ++ q))
+    (fits : length text < 2 ^ 32) (id : IdFits c) (small : number < 2 ^ 64) (valid : time_layout time ≡ (Ok tt)) (t : List ℕ) where
   module _ (inside : length p + length (entry_name c) + y.len + length (reason_text c) ≤ length text) (late : of_z w64 time ≤ latest) where
     symbol_first : length p + length (entry_name c) < 2 ^ 32
     symbol_first = omega arith
@@ -362,19 +355,19 @@ module _ (c : Chosen) (time : ℤ) (number : ℕ) (y : Symbol) (texted : Texted 
     entry_with : (rows : List ℕ) → event_of rows text (entry_bytes c time number (length p) y ++ t)
         ≡ record {
           checkpoint = named (take (length (entry_name c)) (drop (length p) text));
-          number = N.Is number;
+          number = Some number;
           time = to_z w64 (of_z w64 time);
           symbol = bytes_of_text text (as_str (cell_by 4 (length p + length (entry_name c) + 2 ^ 32 * y.len)));
-          action = Str.Nothing;
-          client = Str.Nothing;
-          shares = I64.Nothing;
-          limit = F64.Nothing;
+          action = None;
+          client = None;
+          shares = None;
+          limit = None;
           id = as_i64 (cell_by (id_kind c) (id_payload c));
           reason = as_str (cell_by (reason_kind c) (reason_payload c (length p + length (entry_name c) + y.len)));
-          equity = F64.Nothing;
-          success = B.Nothing;
-          positions = none;
-          orders = none;
+          equity = None;
+          success = None;
+          positions = None;
+          orders = None;
         }
     entry_with rows =
         ap (λ (s : List ℕ). event_of rows text (s ++ t)) (entry_plain c time number (length p) y)
@@ -416,7 +409,7 @@ bytes_with : (first len number time k0 p0 k5 p5 k6 p6 : ℕ) → Bytes (event_wi
 unfolding event_with
 bytes_with first len number time k0 p0 k5 p5 k6 p6 = search (bytes_append, bytes_number) depth 60 fits 3000
 
-pub bytes_entry : (c : Chosen) (time : ℤ) (number first : ℕ) (y : Symbol) → Bytes (entry_bytes c time number first y)
+pub bytes_entry : (c : (Option OrderId)) (time : ℤ) (number first : ℕ) (y : Symbol) → Bytes (entry_bytes c time number first y)
 bytes_entry c time number first y =
     rw (entry_plain c time number first y)
     (bytes_with first (length (entry_name c)) number (of_z w64 time) 4 (first + length (entry_name c) + 2 ^ 32 * y.len) (id_kind c) (id_payload c)

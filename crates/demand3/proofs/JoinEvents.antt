@@ -1,10 +1,11 @@
 -- What recovery reads from a joined book: the events of A as they were, and the first k of B with their text references moved by A's text length.
 -- About no function. Assumes nothing.
+use Rattle.cell.specs.declared.ListRef.{ListRef}
+use Rattle.std.specs.Prelude.{None, Option}
 use Prim.Native.Nat.{ℕ, zero, suc, ◌+◌, ◌*◌, ◌-◌, ◌%◌, ◌/◌, ◌^◌, ◌≤◌, ◌<◌}
 use mathlib.Core.Path.{◌≡◌, refl, sym, ap, ◌∙◌}
 use mathlib.Core.List.{List, [], ◌∷◌, ◌++◌, map}
 use mathlib.Core.Bool.{true, false}
-use mathlib.Core.Option.{Option, none, some}
 use native.Mathlib.Nat.{add_comm, le_refl}
 use native.Mathlib.Omega.{arith}
 use lib.Dec.{lit<}
@@ -13,17 +14,12 @@ use lib.Seq.{drop-append-le, drop-append-add, take-append-le}
 use borrow.Author.Tests.{leb-true}
 use Rattle.wire.specs.Le.{le}
 use Rattle.wire.specs.Table.{every, records}
-use Rattle.wire.specs.declared.layout.Layout.TheVariants as L
 use Rattle.wire.proofs.Numbers.{le_append, le_drop_append}
 use Rattle.wire.proofs.Records.{records_append}
 use Rattle.wire.proofs.Written.{Bytes}
 use Rattle.symbol.proofs.Text.{bytes_drop}
 use Rattle.cell.specs.Cell.{cell_by, cell_of, as_str, as_i64, as_f64, as_bool, as_array, text_in}
 use Rattle.cell.specs.declared.TextRef.{TextRef}
-use Rattle.cell.specs.declared.AsStr.{AsStr}
-use Rattle.cell.specs.declared.AsStr.TheVariants as Str
-use Rattle.cell.specs.declared.AsArray.{AsArray}
-use Rattle.cell.specs.declared.AsArray.TheVariants as A
 use Rattle.cell.specs.declared.Cell.{Cell}
 use Rattle.cell.specs.declared.Cell.TheVariants.{None, Int, Big, Float, Text, Truth, List as Rows}
 use Rattle.book.specs.Layout.{cell_ok, row_ok, event_ok, payload_ok, event_count, row_count, text_length, book_layout}
@@ -39,18 +35,19 @@ use Rattle.join.proofs.MovedTables.{records_near, records_take, records_same, re
 use Rattle.join.proofs.MovedCells.{cell_near, moved_value, cell_moved}
 use Rattle.join.proofs.MovedEvents.{passed, first_moved, len_moved, mark_moved, number_moved, time_moved, cell_at}
 use Rattle.demand3.proofs.JoinLayout.{added_events, added_rows, joined_count, joined_row_count, joined_text_lem, joined_rows_lem, joined_events_lem, joined_sound, bytes_joined}
+use Rattle.std.specs.Prelude.{Some, Ok}
 
 -- ---- text references moved by d bytes; names, symbols and lists are held by value already
-abbrev pub moved_str : ℕ → AsStr → AsStr
-moved_str d (Str.Is r) = Str.Is (record { first = r.first + d; len = r.len })
-moved_str d Str.Nothing = Str.Nothing
+abbrev pub moved_str : ℕ → Option TextRef → Option TextRef
+moved_str d (Some r) = Some (record { first = r.first + d; len = r.len })
+moved_str d None = None
 
 abbrev pub moved_row_refs : ℕ → Row → Row
 moved_row_refs d r = record { symbol = r.symbol; action = moved_str d r.action; amount = r.amount; price = r.price }
 
 abbrev pub moved_list_refs : ℕ → Option (List Row) → Option (List Row)
-moved_list_refs d none = none
-moved_list_refs d (some rs) = some (map (moved_row_refs d) rs)
+moved_list_refs d None = None
+moved_list_refs d (Some rs) = Some (map (moved_row_refs d) rs)
 
 abbrev pub moved_refs : ℕ → Event → Event
 moved_refs d e =
@@ -90,7 +87,7 @@ str_kept rows t u (suc zero) p h = refl
 str_kept rows t u (suc (suc zero)) p h = refl
 str_kept rows t u (suc (suc (suc zero))) p h = refl
 str_kept rows t u (suc (suc (suc (suc zero)))) p h =
-    ap some (text_kept t u (record { first = p % 2 ^ 32; len = p / 2 ^ 32 }) (leb-true (p % 2 ^ 32 + p / 2 ^ 32) (length t) h))
+    ap Some (text_kept t u (record { first = p % 2 ^ 32; len = p / 2 ^ 32 }) (leb-true (p % 2 ^ 32 + p / 2 ^ 32) (length t) h))
 str_kept rows t u (suc (suc (suc (suc (suc zero))))) p h = refl
 str_kept rows t u (suc (suc (suc (suc (suc (suc zero)))))) p h = refl
 str_kept rows t u (suc (suc (suc (suc (suc (suc (suc k))))))) p h = refl
@@ -100,9 +97,9 @@ unfolding cell_ok cell_of
 cell_str_kept rows t u s h = str_kept rows t u (le 8 s) (le 8 (drop 8 s)) h
 
 -- ---- what the readers give for a moved cell
-abbrev moved_array : ℕ → AsArray → AsArray
-moved_array d (A.Is first count) = A.Is (first + d) count
-moved_array d A.Nothing = A.Nothing
+abbrev moved_array : ℕ → Option ListRef → Option ListRef
+moved_array d (Some l) = Some (record { first = l.first + d; count = l.count })
+moved_array d None = None
 
 record ReadMoved (dt dr : ℕ) (c : Cell) : Type 0 where
   str : as_str (moved_value dt dr c) ≡ moved_str dt (as_str c)
@@ -120,9 +117,9 @@ read_moved dt dr (Text first len) = record { str = refl; i64 = refl; f64 = refl;
 read_moved dt dr (Truth b) = record { str = refl; i64 = refl; f64 = refl; bool = refl; array = refl }
 read_moved dt dr (Rows first count) = record { str = refl; i64 = refl; f64 = refl; bool = refl; array = refl }
 
-bytes_str : (t u : List ℕ) (d : ℕ) (a : AsStr) → length t ≡ d → bytes_of_text (t ++ u) (moved_str d a) ≡ bytes_of_text u a
-bytes_str t u d (Str.Is r) e = ap some (text_behind t u d r.first r.len e)
-bytes_str t u d Str.Nothing e = refl
+bytes_str : (t u : List ℕ) (d : ℕ) (a : (Option TextRef)) → length t ≡ d → bytes_of_text (t ++ u) (moved_str d a) ≡ bytes_of_text u a
+bytes_str t u d (Some r) e = ap Some (text_behind t u d r.first r.len e)
+bytes_str t u d None e = refl
 
 -- ---- rows
 row_of_near : (text s t : List ℕ) → 64 ≤ length s → row_of text (s ++ t) ≡ row_of text s
@@ -160,14 +157,16 @@ module _ (rows d : ℕ) (t u : List ℕ) (e : length t ≡ d) (r : rows < 2 ^ 32
       )
 
 -- ---- lists of rows
-rows_kept : (n : ℕ) (rs x y t u : List ℕ) (a : AsArray) → length rs ≡ 64 * n → every (row_ok n (length t)) 64 n (rs ++ y) ≡ true → ArrayIn n a
+rows_kept : (n : ℕ) (rs x y t u : List ℕ) (a : (Option ListRef)) → length rs ≡ 64 * n → every (row_ok n (length t)) 64 n (rs ++ y) ≡ true → ArrayIn n a
     → rows_of (rs ++ x) (t ++ u) a ≡ rows_of (rs ++ y) t a
-rows_kept n rs x y t u A.Nothing size ok w = refl
-rows_kept n rs x y t u (A.Is first count) size ok w =
+rows_kept n rs x y t u None size ok w = refl
+rows_kept n rs x y t u (Some l) size ok w =
+    let first = l.first in
+    let count = l.count in
     let g = row_of (t ++ u) in
     let h : 64 * first ≤ length rs = omega arith in
     let m : 64 * count ≤ length (drop (64 * first) rs) = rw length-drop (omega arith) in
-    ap some
+    ap Some
     (ap (records g 64 count) (drop-append-le (64 * first) rs x h)
     ∙ records_near g 64 (row_of_near (t ++ u)) count (drop (64 * first) rs) x m
     ∙ sym (records_near g 64 (row_of_near (t ++ u)) count (drop (64 * first) rs) y m)
@@ -175,15 +174,17 @@ rows_kept n rs x y t u (A.Is first count) size ok w =
     ∙ records_same (row_ok n (length t)) 64 g (row_of t) (row_kept n t u) count (drop (64 * first) (rs ++ y))
     (every_from (row_ok n (length t)) 64 first count n (rs ++ y) w ok))
 
-rows_moved : (n m d : ℕ) (ra rb x t u : List ℕ) (a : AsArray) → length ra ≡ 64 * n → length t ≡ d → m < 2 ^ 32 → length u + d < 2 ^ 32 → Bytes rb
+rows_moved : (n m d : ℕ) (ra rb x t u : List ℕ) (a : (Option ListRef)) → length ra ≡ 64 * n → length t ≡ d → m < 2 ^ 32 → length u + d < 2 ^ 32 → Bytes rb
     → every (row_ok m (length u)) 64 m rb ≡ true → ArrayIn m a
     → rows_of (ra ++ (each (moved_row d) 64 m rb ++ x)) (t ++ u) (moved_array n a) ≡ moved_list_refs d (rows_of rb u a)
-rows_moved n m d ra rb x t u A.Nothing size e r l b ok w = refl
-rows_moved n m d ra rb x t u (A.Is first count) size e r l b ok w =
+rows_moved n m d ra rb x t u None size e r l b ok w = refl
+rows_moved n m d ra rb x t u (Some a) size e r l b ok w =
+    let first = a.first in
+    let count = a.count in
     let q : 64 * (first + n) ≡ length ra + 64 * first = omega arith in
     let h : first ≤ m = omega arith in
     let k : count ≤ m - first = omega arith in
-    ap some
+    ap Some
     (rw (q, drop-append-add ra (each (moved_row d) 64 m rb ++ x) (64 * first), drop_each (moved_row d) 64 (row_size_lem d) first m rb x h)
     (records_moved (moved_row d) 64 (row_size_lem d) (row_ok m (length u)) (row_of (t ++ u)) (row_of u) (moved_row_refs d) (row_moved m d t u e r l)
     count (m - first) (drop (64 * first) rb) x (bytes_drop (64 * first) rb b) k
@@ -288,14 +289,14 @@ take_map {B = B} h (suc k) (x ∷ xs) = ap (λ (r : List B). h x ∷ r) (take_ma
 
 -- ---- the joined book, where neither book is refused and the join is not too large
 pub record JoinedBook (a b : List ℕ) (k : ℕ) : Type 0 where
-  pub layout : book_layout (joined a b k) ≡ L.Sound
+  pub layout : book_layout (joined a b k) ≡ (Ok tt)
   pub count : event_count (joined a b k) ≡ event_count a + k
   pub rows : row_count (joined a b k) ≡ row_count a + row_count b
   pub text : text_of (joined a b k) ≡ text_of a ++ text_of b
   pub events : events_of (joined a b k) ≡ events_of a ++ take k (map (moved_refs (text_length a)) (events_of b))
   pub bytes : Bytes (joined a b k)
 
-module _ (a b : List ℕ) (k : ℕ) (sa : book_layout a ≡ L.Sound) (sb : book_layout b ≡ L.Sound) (bytes : Bytes b) (most : k ≤ event_count b)
+module _ (a b : List ℕ) (k : ℕ) (sa : book_layout a ≡ (Ok tt)) (sb : book_layout b ≡ (Ok tt)) (bytes : Bytes b) (most : k ≤ event_count b)
     (fits : too_large (joined_length a b k) (event_count a + k) (row_count a + row_count b) ≡ false) where
   events_kept : (x : List ℕ) → records (event_of (row_bytes a ++ x) (text_of a ++ text_of b)) 240 (event_count a) (event_bytes a) ≡ events_of a
   events_kept x =

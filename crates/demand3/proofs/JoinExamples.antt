@@ -5,7 +5,6 @@ use mathlib.Core.Path.{◌≡◌, refl}
 use mathlib.Core.List.{List, [], ◌∷◌, ◌++◌, map}
 use lib.IntN.{pos}
 use lib.ListN.{length}
-use Rattle.wire.specs.declared.layout.Layout.TheVariants as L
 use Rattle.symbol.specs.declared.Symbol.{Symbol}
 use Rattle.book.specs.Layout.{book_layout}
 use Rattle.book.specs.Event.{text_of}
@@ -13,9 +12,9 @@ use Rattle.samples.specs.BookBytes.{part, numbered_with, book_bytes, book_opened
 use Rattle.effects.specs.Event.{events_of}
 use Rattle.join.specs.Join.{book_of, each, moved_cell, moved_row, moved_event, joined}
 use Rattle.intents.specs.Intents.{entry_bytes, entry_table, entry_text, entry_texts, addendum}
-use Rattle.intents.specs.declared.Chosen.TheVariants as C
 use Rattle.demand3.proofs.Entries.{entry_events}
 use Rattle.demand3.proofs.JoinEvents.{moved_refs}
+use Rattle.std.specs.Prelude.{None, Ok}
 
 -- a log whose diff has one row, of `AB` with the action `B`, and an intent of it
 log : List ℕ
@@ -30,23 +29,23 @@ y = record { word = 65 + 256 * 66; len = 2 }
 
 -- the entry of an intent that is not found
 entry : List ℕ
-entry = addendum C.Nothing (pos 7) 2 (y ∷ [])
+entry = addendum None (pos 7) 2 (y ∷ [])
 
 -- all that the examples go through
 unfoldable opened : Unit {0}
 unfolding book_opened log entry y addendum book_of entry_table entry_texts entry_bytes entry_text joined each moved_cell moved_row moved_event entry_events
 opened = tt
 
-entry_sound : book_layout entry ≡ L.Sound
+entry_sound : book_layout entry ≡ (Ok tt)
 unfolding opened
 entry_sound = refl
 
 -- joined whole, and cut to none: the log's events, the entry after them, and both texts
-whole_events : events_of (joined log entry 1) ≡ events_of log ++ entry_events C.Nothing (pos 7) 3 (length (text_of log)) (y ∷ [])
+whole_events : events_of (joined log entry 1) ≡ events_of log ++ entry_events None (pos 7) 3 (length (text_of log)) (y ∷ [])
 unfolding opened
 whole_events = refl
 
-whole_sound : book_layout (joined log entry 1) ≡ L.Sound
+whole_sound : book_layout (joined log entry 1) ≡ (Ok tt)
 unfolding opened
 whole_sound = refl
 

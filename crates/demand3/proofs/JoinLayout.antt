@@ -8,7 +8,6 @@ use native.Mathlib.Omega.{arith}
 use lib.ListN.{length, length-append}
 use Rattle.wire.specs.Le.{bytes_of}
 use Rattle.wire.specs.Table.{every}
-use Rattle.wire.specs.declared.layout.Layout.TheVariants as L
 use Rattle.wire.proofs.Written.{Bytes}
 use Rattle.symbol.proofs.Text.{bytes_take, bytes_drop}
 use Rattle.book.specs.Layout.{row_ok, event_ok, event_count, row_count, text_length, book_layout}
@@ -20,6 +19,7 @@ use Rattle.sound_state.proofs.Tables.{every_take}
 use Rattle.sound_state.proofs.Tabled.{event_bytes, row_bytes, Laid}
 use Rattle.join.proofs.MovedTables.{bytes_append, bytes_number, every_near, every_append, every_more, every_moved, bytes_each}
 use Rattle.join.proofs.MovedEvents.{row_near, row_more, bytes_row, row_ok_moved, event_near, event_more, bytes_event, event_ok_moved}
+use Rattle.std.specs.Prelude.{Ok}
 
 -- ---- the joined book's tables
 abbrev pub added_events : List ℕ → List ℕ → ℕ → List ℕ
@@ -114,7 +114,7 @@ module _ (a b : List ℕ) (k : ℕ) (la : Laid a) (lb : Laid b) where
           (omega (arith, below)) (omega (arith, below, text_size_lem)) (omega arith) (omega arith))
           (row_count b) (rows_in b) rest (bytes_drop (24 + 240 * event_count b) b bytes) lb.rows))
 
-      pub joined_sound : book_layout (joined a b k) ≡ L.Sound
+      pub joined_sound : book_layout (joined a b k) ≡ (Ok tt)
       unfolding joined
       joined_sound =
           book_sound (event_count a + k) (row_count a + row_count b) (event_bytes a ++ added_events a b k) (row_bytes a ++ added_rows a b) (text_of a ++ text_of b)

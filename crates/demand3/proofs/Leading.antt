@@ -1,5 +1,6 @@
 -- One log led to another by entries: what a round that passes does, and what any number of rounds do. About no function.
 -- Assumes nothing.
+use Rattle.types.specs.declared.order.OrderId.{OrderId}
 use Prim.Native.Nat.{ℕ, ◌+◌, ◌*◌, ◌^◌, ◌≤◌, ◌<◌}
 use mathlib.Core.Path.{◌≡◌, refl, sym, ap, ◌∙◌, subst}
 use mathlib.Core.Logic.{◌⊎◌, inl, inr}
@@ -7,7 +8,6 @@ use mathlib.Core.List.{List, [], ◌++◌, append_assoc, append-nil}
 use native.Mathlib.Omega.{arith}
 use lib.IntN.{pos}
 use lib.ListN.{length, length-append}
-use Rattle.wire.specs.declared.layout.Layout.TheVariants as L
 use Rattle.wire.proofs.Written.{Bytes}
 use Rattle.wire.proofs.Records.{Each}
 use Rattle.wire.proofs.Records as Of
@@ -19,7 +19,6 @@ use Rattle.effects.specs.Event.{Event, events_of}
 use Rattle.recovery.specs.Recover.{State, first_state, steps}
 use Rattle.recovery.proofs.Appended.{steps_append}
 use Rattle.intents.specs.Intents.{orders_most}
-use Rattle.intents.specs.declared.Chosen.{Chosen}
 use Rattle.demand3.specs.Demand3.{recovered, open_intents}
 use Rattle.demand3.proofs.Entries.{Texted}
 use Rattle.demand3.proofs.Settling.{Written, end, written_more, written_append, written_length}
@@ -27,10 +26,11 @@ use Rattle.demand3.proofs.Progress.{Prog, prog_refl, prog_more, prog_trans, prog
 use Rattle.sound_state.proofs.Tabled.{events_count}
 use Rattle.sound_state.proofs.Recovered.{timeless}
 use Rattle.demand3.proofs.Stepping.{noted, noted_number, steps_marks, entries_positions}
+use Rattle.std.specs.Prelude.{Ok, Option}
 
-pub record Led (c : Chosen) (x y : List ℕ) : Type 0 where
+pub record Led (c : (Option OrderId)) (x y : List ℕ) : Type 0 where
   pub bytes : Bytes y
-  pub sound : book_layout y ≡ L.Sound
+  pub sound : book_layout y ≡ (Ok tt)
   -- the entries' symbols, the entries, and the text after x's
   pub symbols : List Symbol
   pub entries : List Event
@@ -51,29 +51,29 @@ each_join Of.none q = q
 each_join (Of.more p ps) q = Of.more p (each_join ps q)
 
 -- ---- the state that is recovered
-pub led_state : {c : Chosen} {x y : List ℕ} (l : Led c x y) → recovered y ≡ steps (recovered x) l.entries
+pub led_state : {c : (Option OrderId)} {x y : List ℕ} (l : Led c x y) → recovered y ≡ steps (recovered x) l.entries
 led_state {x} l = ap (steps (first_state (pos 0))) l.events ∙ steps_append (first_state (pos 0)) (events_of x) l.entries
 
-pub led_marks : {c : Chosen} {x y : List ℕ} (l : Led c x y) → timeless (recovered y).marks ≡ noted c (length l.symbols) (recovered x).marks
+pub led_marks : {c : (Option OrderId)} {x y : List ℕ} (l : Led c x y) → timeless (recovered y).marks ≡ noted c (length l.symbols) (recovered x).marks
 led_marks {x} l = ap (λ (st : State). timeless st.marks) (led_state l) ∙ steps_marks (recovered x) refl l.written
 
-pub led_number : {c : Chosen} {x y : List ℕ} (l : Led c x y) → (recovered y).marks.number ≡ (recovered x).marks.number + length l.symbols
+pub led_number : {c : (Option OrderId)} {x y : List ℕ} (l : Led c x y) → (recovered y).marks.number ≡ (recovered x).marks.number + length l.symbols
 led_number {c} {x} l = ap (λ (m : Marks). m.number) (led_marks l) ∙ noted_number c (length l.symbols) (recovered x).marks
 
-pub led_positions : {c : Chosen} {x y : List ℕ} (l : Led c x y) → (recovered y).positions ≡ (recovered x).positions
+pub led_positions : {c : (Option OrderId)} {x y : List ℕ} (l : Led c x y) → (recovered y).positions ≡ (recovered x).positions
 led_positions {x} l = ap (λ (st : State). st.positions) (led_state l) ∙ entries_positions (recovered x) l.written
 
 -- entries and open intents add up
-pub led_total : {c : Chosen} {x y : List ℕ} (l : Led c x y) → length l.symbols + open_intents y ≡ open_intents x
+pub led_total : {c : (Option OrderId)} {x y : List ℕ} (l : Led c x y) → length l.symbols + open_intents y ≡ open_intents x
 led_total {x} {y} l =
     omega (arith, sum_one l.symbols, l.weight one, weight_count (recovered x).orders, weight_count (recovered y).orders)
 
-pub led_count : {c : Chosen} {x y : List ℕ} (l : Led c x y) → event_count y ≡ event_count x + length l.symbols
+pub led_count : {c : (Option OrderId)} {x y : List ℕ} (l : Led c x y) → event_count y ≡ event_count x + length l.symbols
 led_count {x} {y} l =
     sym (events_count y) ∙ ap length l.events ∙ length-append (events_of x) l.entries ∙ omega (arith, events_count x, written_length l.written)
 
 -- ---- no entry, and entries after entries
-pub led_refl : {c : Chosen} (x : List ℕ) → Bytes x → book_layout x ≡ L.Sound → Led c x x
+pub led_refl : {c : (Option OrderId)} (x : List ℕ) → Bytes x → book_layout x ≡ (Ok tt) → Led c x x
 unfolding sum
 led_refl x b s =
     record {
@@ -93,7 +93,7 @@ led_refl x b s =
       space = inl refl;
     }
 
-led_space : {c : Chosen} {x y z : List ℕ} (l : Led c x y) (m : Led c y z)
+led_space : {c : (Option OrderId)} {x y z : List ℕ} (l : Led c x y) (m : Led c y z)
     → (length (l.symbols ++ m.symbols) ≡ 0) ⊎ (((recovered x).marks.number + 1 + open_intents x < 2 ^ 64) × (64 * length (recovered x).orders < orders_most))
 led_space {x} {y} {z} l m =
     elim l.space [
@@ -104,7 +104,7 @@ led_space {x} {y} {z} l m =
       ]
     ]
 
-pub led_trans : {c : Chosen} {x y z : List ℕ} → Led c x y → Led c y z → Led c x z
+pub led_trans : {c : (Option OrderId)} {x y z : List ℕ} → Led c x y → Led c y z → Led c x z
 led_trans {c} {x} {y} {z} l m =
     let e : text_of z ≡ text_of y ++ m.texts = m.text in
     record {

@@ -1,3 +1,4 @@
+pub mod NeverFull
 pub mod Entries
 pub mod JoinLayout
 pub mod JoinEvents

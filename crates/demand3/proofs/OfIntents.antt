@@ -1,5 +1,6 @@
 -- Entries that weigh, symbol by symbol, no more than the open intents are entries of open intents. About no function.
 -- Assumes nothing.
+use Rattle.types.specs.declared.order.OrderId.{OrderId}
 use Prim.Native.Nat.{ℕ, suc, ◌≤◌, ◌<◌}
 use mathlib.Core.Path.{◌≡◌, refl}
 use mathlib.Core.List.{List, [], ◌∷◌}
@@ -12,12 +13,12 @@ use Rattle.symbol.specs.declared.Symbol.{Symbol}
 use Rattle.records.specs.Search.{is_intent, any_where}
 use Rattle.records.specs.declared.order.Order.{Order}
 use Rattle.effects.specs.Event.{Event}
-use Rattle.intents.specs.declared.Chosen.{Chosen}
 use Rattle.rounds.proofs.Answers.{by_bool}
 use Rattle.demand3.specs.Demand3.{is_entry, of_intent, OfIntents}
 use Rattle.demand3.proofs.Entries.{Texted, entry_event}
 use Rattle.demand3.proofs.Settling.{Written, end, more, text_is, same_sym, same_refl}
 use Rattle.demand3.proofs.Progress.{open_weight, sum, tally, weight_open, weight_shut}
+use Rattle.std.specs.Prelude.{Option}
 
 -- ---- a symbol that weighs among the open intents is one of theirs
 or_true : (a : Bool) → (a || true) ≡ true
@@ -55,7 +56,7 @@ unfolding sum
 tally_tail x z ys = omega arith
 
 -- ---- so each entry is one's
-pub written_of : {c : Chosen} {text : List ℕ} {n : ℕ} {ys : List Symbol} {es : List Event} (os : List Order)
+pub written_of : {c : (Option OrderId)} {text : List ℕ} {n : ℕ} {ys : List Symbol} {es : List Event} (os : List Order)
     → ((z : Symbol) → sum (tally z) ys ≤ open_weight (tally z) os) → Each Texted ys → Written c text n ys es → OfIntents os es
 written_of os h t end = tt
 written_of {c} os h (Of.more x t) (more {n} {y = z} {ys} {es} time first r w) = (

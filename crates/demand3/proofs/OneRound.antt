@@ -1,5 +1,6 @@
 -- One round: with the broker's choice, it leads the log to the next by the entries that were joined. About no function.
 -- Assumes nothing.
+use Rattle.types.specs.declared.order.OrderId.{OrderId}
 use Prim.Native.Nat.{ℕ, suc, ◌+◌, ◌*◌, ◌^◌, ◌≤◌, ◌<◌}
 use mathlib.Core.Path.{◌≡◌, refl, sym, ap, ◌∙◌, subst}
 use mathlib.Core.Logic.{inr}
@@ -9,7 +10,6 @@ use native.Mathlib.Omega.{arith}
 use lib.IntN.{ℤ, pos}
 use lib.ListN.{length, take}
 use borrow.Author.Tests.{ltb-true, ltb-false, leb-false}
-use Rattle.wire.specs.declared.layout.Layout.TheVariants as L
 use Rattle.wire.proofs.Written.{Bytes}
 use Rattle.wire.proofs.Records.{Each}
 use Rattle.symbol.specs.declared.Symbol.{Symbol}
@@ -22,7 +22,6 @@ use Rattle.effects.specs.Event.{Event, events_of}
 use Rattle.recovery.specs.Recover.{State, first_state, steps}
 use Rattle.recovery.proofs.Appended.{steps_append}
 use Rattle.intents.specs.Intents.{chosen, addendum, entry_table, entry_texts, orders_most}
-use Rattle.intents.specs.declared.Chosen.{Chosen}
 use Rattle.join.specs.Join.{joined, too_large}
 use Rattle.rounds.specs.Rounds.{Round, Outcome, join_round, round_of, next}
 use Rattle.rounds.proofs.Answers.{by_bool, Third, third_log, third_addendum, round_refused}
@@ -37,13 +36,14 @@ use Rattle.demand3.proofs.Stepping.{steps_orders}
 use Rattle.demand3.proofs.Calls.{Askable, Second, passed}
 use Rattle.demand3.proofs.EntriesJoined.{Entered, EntriesJoin, add_reads, joins_book, joins_events, joins_text, entries_written, written_take}
 use Rattle.demand3.proofs.Leading.{Led, led_total, led_count, led_refl}
+use Rattle.std.specs.Prelude.{Ok, Option}
 
 -- ---- the addendum, with the broker's choice
 abbrev pub chosen_addendum : List BrokerOrderStatus → Round → List ℕ → List ℕ
 chosen_addendum broker r x = addendum (chosen broker) r.time (recovered x).marks.number (reached_by r x)
 
 -- an addendum of no entries is the same whatever was chosen
-none_chosen : (c d : Chosen) (time : ℤ) (n : ℕ) (ys : List Symbol) → length ys ≡ 0 → addendum c time n ys ≡ addendum d time n ys
+none_chosen : (c d : (Option OrderId)) (time : ℤ) (n : ℕ) (ys : List Symbol) → length ys ≡ 0 → addendum c time n ys ≡ addendum d time n ys
 unfolding addendum entry_table entry_texts
 none_chosen c d time n [] h = refl
 none_chosen c d time n (y ∷ ys) h = let z : suc (length ys) ≡ 0 = h in absurd (omega arith)
@@ -67,11 +67,11 @@ reached_most : (r : Round) (x : List ℕ) → length (reached_by r x) ≤ open_i
 reached_most r x =
     omega (arith, sum_one (reached_by r x), weight_count (recovered x).orders, among_weight one (reached_open r x))
 
-orders_texted : (x : List ℕ) → Bytes x → book_layout x ≡ L.Sound → Each (λ (o : Order). Texted o.symbol) (recovered x).orders
+orders_texted : (x : List ℕ) → Bytes x → book_layout x ≡ (Ok tt) → Each (λ (o : Order). Texted o.symbol) (recovered x).orders
 orders_texted x b s = each_map (recovered x).orders (λ o g. spelt_texted o.symbol g.symbol) (state_good x (pos 0) b s).orders
 
 -- ---- a round on a sound log of bytes
-module _ (broker : List BrokerOrderStatus) (small : Small (chosen broker)) (r : Round) (x : List ℕ) (bx : Bytes x) (sx : book_layout x ≡ L.Sound)
+module _ (broker : List BrokerOrderStatus) (small : Small (chosen broker)) (r : Round) (x : List ℕ) (bx : Bytes x) (sx : book_layout x ≡ (Ok tt))
     (shows : Shows broker r x) where
   pub entered : Askable r x → Entered (chosen broker) r.time (recovered x).marks.number (reached_by r x)
   entered q =
@@ -172,13 +172,13 @@ module _ (broker : List BrokerOrderStatus) (small : Small (chosen broker)) (r : 
       ∙ (add_reads (entered p.second.askable)).count
 
 -- ---- a round, refused or not
-pub led_next : (broker : List BrokerOrderStatus) → Small (chosen broker) → (r : Round) (x : List ℕ) → Bytes x → book_layout x ≡ L.Sound
+pub led_next : (broker : List BrokerOrderStatus) → Small (chosen broker) → (r : Round) (x : List ℕ) → Bytes x → book_layout x ≡ (Ok tt)
     → NoRepeat (recovered x).orders → (passes r x ≡ true → Shows broker r x) → Led (chosen broker) x (next r x)
 led_next broker small r x bx sx d shows =
     by_bool (passes r x) (λ h. led_passed broker small r x bx sx (shows h) d h)
     (λ h. subst (Led (chosen broker) x) (sym (round_refused r x h)) (led_refl x bx sx))
 
-pub round_fewer : (broker : List BrokerOrderStatus) → Small (chosen broker) → (r : Round) (x : List ℕ) → Bytes x → book_layout x ≡ L.Sound
+pub round_fewer : (broker : List BrokerOrderStatus) → Small (chosen broker) → (r : Round) (x : List ℕ) → Bytes x → book_layout x ≡ (Ok tt)
     → NoRepeat (recovered x).orders → (passes r x ≡ true → Shows broker r x) → passes r x ≡ true → Whole r x → answered r x ≡ true → open_intents (next r x) < open_intents x
 round_fewer broker small r x bx sx d shows h w a =
     let l = led_next broker small r x bx sx d shows in

@@ -1,5 +1,7 @@
 -- Progress: each order as it was, or an open intent settled. What it keeps, what the open intents weigh, and where it ends. About no function.
 -- Assumes nothing.
+use Rattle.types.specs.declared.order.OrderId.{OrderId}
+use Rattle.cell.specs.declared.TextRef.{TextRef}
 use Prim.Native.Nat.{ℕ, zero, suc, ◌+◌, ◌≤◌, zero-le}
 use mathlib.Core.Path.{◌≡◌, refl, sym, ap, ◌∙◌}
 use mathlib.Core.List.{List, [], ◌∷◌, ◌++◌}
@@ -12,33 +14,32 @@ use Rattle.wire.proofs.Records.{Each}
 use Rattle.wire.proofs.Records as Of
 use Rattle.symbol.specs.Symbol.{same_symbol}
 use Rattle.symbol.specs.declared.Symbol.{Symbol}
-use Rattle.cell.specs.declared.AsStr.{AsStr}
 use Rattle.records.specs.Search.{is_intent, count_where, count_if, any_where, change_first, has_text}
 use Rattle.records.specs.declared.order.Order.{Order}
 use Rattle.effects.specs.Event.{Event}
 use Rattle.intents.specs.Intents.{symbol_text, entry_name, entry_text, entry_texts, query, reconcile_order_intent, Queried, reached_if, reached}
-use Rattle.intents.specs.declared.Chosen.{Chosen}
 use Rattle.rounds.proofs.Answers.{by_bool}
 use Rattle.demand3.specs.Demand3.{has_symbol, NoRepeat, is_entry, Small}
 use Rattle.demand3.proofs.Entries.{Texted, entry_reason, entry_event}
 use Rattle.demand3.proofs.Settling.{settle, Reads, settle_shut, settle_symbol, reads_more, same_sym, same_refl, same_is, text_is, entry_orders, Written, end, more, orders_after, skipped, avoid_settled, Among, stop, pass, pick, among_avoid}
+use Rattle.std.specs.Prelude.{Option}
 
-pub data Prog (c : Chosen) (text : List ℕ) : List Order → List Order → Type 0 where
+pub data Prog (c : (Option OrderId)) (text : List ℕ) : List Order → List Order → Type 0 where
   done : Prog c text [] []
   keep : {o : Order} {os ps : List Order} → Prog c text os ps → Prog c text (o ∷ os) (o ∷ ps)
-  shut : {o : Order} {os ps : List Order} (a : AsStr) → is_intent o ≡ true → Reads c text a → Prog c text os ps
+  shut : {o : Order} {os ps : List Order} (a : (Option TextRef)) → is_intent o ≡ true → Reads c text a → Prog c text os ps
       → Prog c text (o ∷ os) (settle c a o ∷ ps)
 
-pub prog_refl : {c : Chosen} {text : List ℕ} (os : List Order) → Prog c text os os
+pub prog_refl : {c : (Option OrderId)} {text : List ℕ} (os : List Order) → Prog c text os os
 prog_refl [] = done
 prog_refl (o ∷ os) = keep (prog_refl os)
 
-pub prog_more : {c : Chosen} {s : List ℕ} (t : List ℕ) {os ps : List Order} → Prog c s os ps → Prog c (s ++ t) os ps
+pub prog_more : {c : (Option OrderId)} {s : List ℕ} (t : List ℕ) {os ps : List Order} → Prog c s os ps → Prog c (s ++ t) os ps
 prog_more t done = done
 prog_more t (keep p) = keep (prog_more t p)
 prog_more {c} {s} t (shut a e r p) = shut a e (reads_more c s t a r) (prog_more t p)
 
-pub prog_trans : {c : Chosen} {text : List ℕ} {os ps qs : List Order} → Prog c text os ps → Prog c text ps qs → Prog c text os qs
+pub prog_trans : {c : (Option OrderId)} {text : List ℕ} {os ps qs : List Order} → Prog c text os ps → Prog c text ps qs → Prog c text os qs
 prog_trans done q = q
 prog_trans (keep p) (keep q) = keep (prog_trans p q)
 prog_trans (keep p) (shut a h r q) = shut a h r (prog_trans p q)
@@ -46,18 +47,18 @@ prog_trans (shut a h r p) (keep q) = shut a h r (prog_trans p q)
 prog_trans {c} (shut {o} a h r p) (shut b h' r' q) = absurd (false≢true (sym (settle_shut c a o) ∙ h'))
 
 -- as many orders, and no symbol repeated that was not
-pub prog_length : {c : Chosen} {text : List ℕ} {os ps : List Order} → Prog c text os ps → length ps ≡ length os
+pub prog_length : {c : (Option OrderId)} {text : List ℕ} {os ps : List Order} → Prog c text os ps → length ps ≡ length os
 prog_length done = refl
 prog_length (keep p) = ap suc (prog_length p)
 prog_length (shut a e r p) = ap suc (prog_length p)
 
-prog_apart : {c : Chosen} {text : List ℕ} (y : Symbol) {os ps : List Order} → Prog c text os ps → any_where (has_symbol y) ps ≡ any_where (has_symbol y) os
+prog_apart : {c : (Option OrderId)} {text : List ℕ} (y : Symbol) {os ps : List Order} → Prog c text os ps → any_where (has_symbol y) ps ≡ any_where (has_symbol y) os
 unfolding any_where
 prog_apart y done = refl
 prog_apart y (keep p) = rw (prog_apart y p)
 prog_apart {c} y (shut {o} a e r p) = rw (settle_symbol c a o, prog_apart y p)
 
-pub prog_distinct : {c : Chosen} {text : List ℕ} {os ps : List Order} → Prog c text os ps → NoRepeat os → NoRepeat ps
+pub prog_distinct : {c : (Option OrderId)} {text : List ℕ} {os ps : List Order} → Prog c text os ps → NoRepeat os → NoRepeat ps
 prog_distinct done h = tt
 prog_distinct (keep {o} p) h = (prog_apart o.symbol p ∙ h.0, prog_distinct p h.1)
 prog_distinct {c} (shut {o} {os} {ps} a e r p) h =
@@ -114,14 +115,14 @@ weight_both w o os ps =
     by_bool (is_intent o) (λ e. omega (arith, weight_open w o os e, weight_open w o ps e)) (λ e. omega (arith, weight_shut w o os e, weight_shut w o ps e))
 
 -- ---- entries for symbols among the open intents
-head_hit : (c : Chosen) (first : ℕ) (o : Order) (os : List Order) → Texted o.symbol
+head_hit : (c : (Option OrderId)) (first : ℕ) (o : Order) (os : List Order) → Texted o.symbol
     → change_first (has_text (symbol_text o.symbol)) (settle c (entry_reason c (first + length (entry_name c) + o.symbol.len))) (o ∷ os)
     ≡ settle c (entry_reason c (first + length (entry_name c) + o.symbol.len)) o ∷ os
 unfolding change_first
 head_hit c first o os t = rw (text_is o.symbol o.symbol t ∙ same_refl o.symbol)
 
 -- where the first of them stands at the head
-pub written_head : {c : Chosen} {text : List ℕ} (time : ℤ) (n first : ℕ) (o : Order) (os : List Order) {ys : List Symbol} {es : List Event} → Small c
+pub written_head : {c : (Option OrderId)} {text : List ℕ} (time : ℤ) (n first : ℕ) (o : Order) (os : List Order) {ys : List Symbol} {es : List Event} → Small c
     → Among os ys → Each (λ (o : Order). Texted o.symbol) (o ∷ os) → NoRepeat (o ∷ os) → Written c text (suc n) ys es
     → orders_after (entry_event c time (suc n) first o.symbol ∷ es) (o ∷ os)
     ≡ settle c (entry_reason c (first + length (entry_name c) + o.symbol.len)) o ∷ orders_after es os
@@ -131,7 +132,7 @@ written_head {c = c} time n first o os {ys} {es} sm m (Of.more x t) d w =
     ap (orders_after es) (entry_orders c time (suc n) first o.symbol (o ∷ os) sm ∙ head_hit c first o os x)
     ∙ skipped sm (settle c a o) os (avoid_settled c a ys o (among_avoid o m t d.0)) w
 
-pub round_prog : {c : Chosen} {text : List ℕ} {n : ℕ} {os : List Order} {ys : List Symbol} {es : List Event} → Small c → Among os ys
+pub round_prog : {c : (Option OrderId)} {text : List ℕ} {n : ℕ} {os : List Order} {ys : List Symbol} {es : List Event} → Small c → Among os ys
     → Each (λ (o : Order). Texted o.symbol) os → NoRepeat os → Written c text n ys es → Prog c text os (orders_after es os)
 unfolding orders_after
 round_prog {n = n} {os} sm stop t d end = prog_refl os
@@ -140,7 +141,7 @@ round_prog {c} {n = n} sm (pick {o} {os} e m) (Of.more x t) d (more time first r
     rw (written_head {c = c} time n first o os sm m (Of.more x t) d w)
     (shut (entry_reason c (first + length (entry_name c) + o.symbol.len)) e r (round_prog {n = suc n} sm m t d.1 w))
 
-pub round_weight : (w : Symbol → ℕ) {c : Chosen} {text : List ℕ} {n : ℕ} {os : List Order} {ys : List Symbol} {es : List Event} → Small c → Among os ys
+pub round_weight : (w : Symbol → ℕ) {c : (Option OrderId)} {text : List ℕ} {n : ℕ} {os : List Order} {ys : List Symbol} {es : List Event} → Small c → Among os ys
     → Each (λ (o : Order). Texted o.symbol) os → NoRepeat os → Written c text n ys es → sum w ys + open_weight w (orders_after es os) ≡ open_weight w os
 unfolding orders_after sum
 round_weight w {n = n} sm stop t d end = omega arith
@@ -202,7 +203,7 @@ count_if_lem : (b : Bool) (n : ℕ) → count_if b n ≡ count_if b 0 + n
 count_if_lem true n = omega arith
 count_if_lem false n = omega arith
 
-pub written_hits : (y : Symbol) {c : Chosen} {text : List ℕ} {n : ℕ} {ys : List Symbol} {es : List Event} → Each Texted ys → Written c text n ys es
+pub written_hits : (y : Symbol) {c : (Option OrderId)} {text : List ℕ} {n : ℕ} {ys : List Symbol} {es : List Event} → Each Texted ys → Written c text n ys es
     → count_where (is_entry y) es ≡ sum (tally y) ys
 unfolding count_where sum tally
 written_hits y t end = refl
@@ -224,10 +225,10 @@ among_weight w (pass {o} {os} m) =
 among_weight w (pick {o} {os} e m) = omega (arith, weight_open w o os e, among_weight w m)
 
 -- an entry's text, and the texts of entries
-abbrev pub text_weight : Chosen → Symbol → ℕ
+abbrev pub text_weight : Option OrderId → Symbol → ℕ
 text_weight c y = length (entry_text c y)
 
-pub texts_length : (c : Chosen) (ys : List Symbol) → length (entry_texts c ys) ≡ sum (text_weight c) ys
+pub texts_length : (c : (Option OrderId)) (ys : List Symbol) → length (entry_texts c ys) ≡ sum (text_weight c) ys
 unfolding entry_texts sum
 texts_length c [] = refl
 texts_length c (y ∷ ys) = length-append (entry_text c y) (entry_texts c ys) ∙ ap (λ (m : ℕ). length (entry_text c y) + m) (texts_length c ys)

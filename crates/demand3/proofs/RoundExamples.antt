@@ -1,4 +1,4 @@
--- Rounds on books of bytes, by computation: a log that demand 3 is about, taken to its end with failures and cuts; and inputs that it leaves out, which show
+-- Rounds on books of bytes, by computation: a log that the claim is about, taken to its end with failures and cuts; and inputs that it leaves out, which show
 -- that without any one of its premises the claim is false. About no function.
 -- Assumes nothing.
 use Prim.Native.Nat.{ℕ, ◌^◌}
@@ -13,7 +13,6 @@ use lib.ListN.{length, take, replicate}
 use borrow.Author.Tests.{ltb-true, leb-true}
 use Rattle.wire.specs.Le.{le}
 use Rattle.wire.specs.Table.{padded}
-use Rattle.wire.specs.declared.layout.Layout.TheVariants as L
 use Rattle.symbol.specs.Symbol.{all_of, parses, parsed, field_ok, wide_field_ok}
 use Rattle.wire.proofs.Bools.{and_left, and_right}
 use Rattle.book.specs.Layout.{book_layout}
@@ -25,7 +24,6 @@ use Rattle.records.specs.Search.{any_where, count_where, change_first}
 use Rattle.marks.specs.Marks.{marks_at}
 use Rattle.effects.specs.Step.{marks_by, positions_of_rows, intended, orders_at, positions_at, orders_by, positions_by}
 use Rattle.audit.specs.Verdict.{first_fault, walk, found, place, last_empty, rules, verdict_of, book_verdict}
-use Rattle.audit.specs.declared.validate.Verdict.TheVariants as Ver
 use Rattle.samples.specs.BookBytes.{part, numbered, numbered_with, intent, begun, book_bytes, book_opened}
 use Rattle.samples.specs.SheetBytes.{listed, sheet_bytes}
 use Rattle.marks.specs.Action.{action_of}
@@ -36,8 +34,9 @@ use Rattle.rounds.specs.Rounds.{Round, join_round, reconcile_round, round_of, ne
 use Rattle.state.specs.State.{same_pair, same_marks, same_texts, same_order, same_position, same_lists, same_state}
 use Rattle.demand3.specs.Demand3.{recovered, open_intents, NoRepeat, added, addendum_of, passes, Whole, answered, Small, OneList, Uncut, Room, same_recovered, Demand3}
 use Rattle.demand3.specs.Claim.{AreBytes, Premises}
-use Rattle.rounds.specs.declared.Rounded.TheVariants as R
 use Rattle.demand3.proofs.Theorem.{demand3}
+use Rattle.std.specs.Prelude.{Ok, Err}
+use Rattle.wire.specs.declared.refusal.Refusal.TheVariants as Refusal
 
 -- all that the examples go through
 unfoldable opened : Unit {0}
@@ -79,12 +78,12 @@ round_by id queries k =
       joined = 65536;
     }
 
--- ---- a log that demand 3 is about: two intents, AB and CD
+-- ---- a log that the claim is about: two intents, AB and CD
 unfoldable sample : List ℕ
 unfolding opened two_intents
 sample = two_intents (ascii "ABCD")
 
-sample_sound : book_layout sample ≡ L.Sound
+sample_sound : book_layout sample ≡ (Ok tt)
 unfolding opened two_intents sample
 sample_sound = refl
 
@@ -92,7 +91,7 @@ sample_bytes : AreBytes sample
 unfolding opened two_intents sample is_byte
 sample_bytes = bytes_by sample refl
 
-sample_accepted : book_verdict sample ≡ Ver.Accepted
+sample_accepted : book_verdict sample ≡ Ok tt
 unfolding opened two_intents sample
 sample_accepted = refl
 
@@ -158,13 +157,13 @@ unfoldable lent_round : ℕ → Round
 unfolding sheet_of
 lent_round k = round_with (sheet_of 78) (0 ∷ 0 ∷ []) (pos 7) (pos 9) k 192 32 600 2500
 
-done_out : ((round_of (lent_round 2) sample).answer ≡ R.Done 2319) × (open_intents (take 2319 (round_log_out (lent_round 2) sample)) ≡ 0)
+done_out : ((round_of (lent_round 2) sample).answer ≡ Ok 2319) × (open_intents (take 2319 (round_log_out (lent_round 2) sample)) ≡ 0)
     × (length (round_log_out (lent_round 2) sample) ≡ 2500) × (le 4 (round_addendum_out (lent_round 2) sample) ≡ 2)
     × (length (round_orders_out (lent_round 2) sample) ≡ 192)
 unfolding opened two_intents sheet_of sample lent_round
 done_out = (refl, refl, refl, refl, refl)
 
-refused_out : ((round_of (lent_round 3) sample).answer ≡ R.TooMany) × (round_log_out (lent_round 3) sample ≡ replicate 2500 0)
+refused_out : ((round_of (lent_round 3) sample).answer ≡ (Err Refusal.TooMany)) × (round_log_out (lent_round 3) sample ≡ replicate 2500 0)
     × (round_addendum_out (lent_round 3) sample ≡ replicate 600 0) × (round_orders_out (lent_round 3) sample ≡ replicate 192 0)
     × (round_positions_out (lent_round 3) sample ≡ replicate 32 0)
 unfolding opened two_intents sheet_of sample lent_round
@@ -177,7 +176,7 @@ unfolding opened two_intents sheet_of round_by sample
 cut_after = (refl, refl, refl)
 
 -- ---- an uncut round without room for the joined log is refused by 3, and leaves both open
-full_after : ((round_of (round_with (sheet_of 78) (0 ∷ 0 ∷ []) (pos 7) (pos 9) 2 192 32 600 2318) sample).answer ≡ R.NoRoom)
+full_after : ((round_of (round_with (sheet_of 78) (0 ∷ 0 ∷ []) (pos 7) (pos 9) 2 192 32 600 2318) sample).answer ≡ (Err Refusal.NoRoom))
     × (open_intents (next (round_with (sheet_of 78) (0 ∷ 0 ∷ []) (pos 7) (pos 9) 2 192 32 600 2318) sample) ≡ 2)
 unfolding opened two_intents sheet_of sample
 full_after = (refl, refl)
@@ -187,7 +186,7 @@ unfoldable torn : List ℕ
 unfolding sample
 torn = take 1804 sample
 
-torn_after : (length sample ≡ 1805) × (book_layout torn ≡ L.Broken) × ((round_of (round_by 78 (0 ∷ 0 ∷ []) 2) torn).answer ≡ R.Broken)
+torn_after : (length sample ≡ 1805) × (book_layout torn ≡ (Err Refusal.Broken)) × ((round_of (round_by 78 (0 ∷ 0 ∷ []) 2) torn).answer ≡ (Err Refusal.Broken))
 unfolding opened two_intents sheet_of round_by sample torn
 torn_after = (refl, refl, refl)
 
@@ -206,7 +205,7 @@ needs_formed :
 unfolding run
 needs_formed claim =
     let d = claim (sheet_orders (sheet_of 78)) [] torn torn_bytes torn_apart tt sample_small in
-    let e : L.Broken ≡ L.Sound = sym torn_after.1 ∙ d.formed in
+    let e : (Err Refusal.Broken) ≡ (Ok tt) = sym torn_after.1 ∙ d.formed in
     let z : ◌≡◌ {A = ℕ} 0 1 = cc in
     omega arith
 
@@ -221,7 +220,7 @@ unfolding opened two_intents sheet_of round_by sample uncut two_lists same_pair 
 lists_after = (refl, refl, refl)
 
 needs_one :
-    ((broker : List BrokerOrderStatus) (rs : List Round) (log : List ℕ) → AreBytes log → book_layout log ≡ L.Sound → NoRepeat (recovered log).orders
+    ((broker : List BrokerOrderStatus) (rs : List Round) (log : List ℕ) → AreBytes log → book_layout log ≡ (Ok tt) → NoRepeat (recovered log).orders
     → Small (chosen broker) → Demand3 broker rs log)
     → ⊥
 needs_one claim =
@@ -250,7 +249,7 @@ unparsed_bytes : AreBytes unparsed
 unfolding opened two_intents unparsed is_byte
 unparsed_bytes = bytes_by unparsed refl
 
-unparsed_sound : book_layout unparsed ≡ L.Sound
+unparsed_sound : book_layout unparsed ≡ (Ok tt)
 unfolding opened two_intents unparsed
 unparsed_sound = refl
 
@@ -259,7 +258,7 @@ unfolding sheet_of round_by whole_round
 unparsed_one = ((λ p a. refl), tt)
 
 needs_apart :
-    ((broker : List BrokerOrderStatus) (rs : List Round) (log : List ℕ) → AreBytes log → book_layout log ≡ L.Sound → OneList broker rs log
+    ((broker : List BrokerOrderStatus) (rs : List Round) (log : List ℕ) → AreBytes log → book_layout log ≡ (Ok tt) → OneList broker rs log
     → Small (chosen broker) → Demand3 broker rs log)
     → ⊥
 needs_apart claim =
@@ -302,7 +301,7 @@ unfolding sheet_of round_by large_round
 large_one = ((λ p a. refl), tt)
 
 needs_small :
-    ((broker : List BrokerOrderStatus) (rs : List Round) (log : List ℕ) → AreBytes log → book_layout log ≡ L.Sound → NoRepeat (recovered log).orders
+    ((broker : List BrokerOrderStatus) (rs : List Round) (log : List ℕ) → AreBytes log → book_layout log ≡ (Ok tt) → NoRepeat (recovered log).orders
     → OneList broker rs log → Demand3 broker rs log)
     → ⊥
 needs_small claim =

@@ -1,10 +1,10 @@
 -- What entries do to a list of orders that repeats no symbol: each order stays as it was, or was an open intent and is settled. About no function.
 -- Assumes nothing.
+use Rattle.cell.specs.declared.TextRef.{TextRef}
 use Prim.Native.Nat.{ℕ, zero, suc, ◌+◌, ◌^◌, ◌≤◌, ◌<◌}
 use mathlib.Core.Path.{◌≡◌, refl, sym, ap, ◌∙◌, subst}
 use mathlib.Core.List.{List, [], ◌∷◌, ◌++◌}
 use mathlib.Core.Bool.{Bool, true, false, cond, not, ◌&&◌}
-use mathlib.Core.Option.{some}
 use native.Mathlib.Omega.{arith}
 use lib.Dec.{eqb}
 use lib.IntN.{ℤ}
@@ -21,32 +21,27 @@ use Rattle.symbol.specs.declared.Symbol.{Symbol}
 use Rattle.wire.proofs.Bools.{and_left, and_right, and_false, or_left, or_right}
 use Rattle.types.specs.declared.order.OrderId.{OrderId}
 use Rattle.cell.specs.Cell.{cell_by, cell_of, as_i64, text_in}
-use Rattle.cell.specs.declared.AsStr.{AsStr}
-use Rattle.cell.specs.declared.AsStr.TheVariants as Str
-use Rattle.cell.specs.declared.AsI64.{AsI64}
-use Rattle.cell.specs.declared.AsI64.TheVariants as I64
 use Rattle.records.specs.Record.{present}
 use Rattle.records.specs.Search.{is_intent, any_where, change_first, has_text}
 use Rattle.records.specs.declared.order.Order.{Order}
 use Rattle.effects.specs.Event.{Event}
 use Rattle.effects.specs.Step.{as_submitted, as_failed, submitted_by, orders_step, orders_by, orders_at}
 use Rattle.intents.specs.Intents.{symbol_text, entry_name, reason_text, cell_bytes}
-use Rattle.intents.specs.declared.Chosen.{Chosen}
-use Rattle.intents.specs.declared.Chosen.TheVariants as C
 use Rattle.rounds.proofs.Answers.{by_bool}
 use Rattle.demand3.specs.Demand3.{has_symbol, Follow, Small}
 use Rattle.demand3.proofs.JoinEvents.{text_kept}
 use Rattle.demand3.proofs.Entries.{Texted, entry_id, entry_reason, entry_event}
+use Rattle.std.specs.Prelude.{Some, None, Option}
 
 -- ---- an order that an entry settled; the reason of a failed one reads as the entry's text
-abbrev pub settle : Chosen → AsStr → Order → Order
-settle (C.Is id) a o = as_submitted (to_z w64 id.0) o
-settle C.Nothing a o = as_failed a o
+abbrev pub settle : Option OrderId → Option TextRef → Order → Order
+settle (Some id) a o = as_submitted (to_z w64 id.0) o
+settle None a o = as_failed a o
 
-abbrev pub Reads : Chosen → List ℕ → AsStr → Type 0
-Reads (C.Is id) text a = Unit
-Reads C.Nothing text Str.Nothing = ⊥
-Reads C.Nothing text (Str.Is r) = (r.first + r.len ≤ length text) × (text_in text r ≡ reason_text C.Nothing)
+abbrev pub Reads : Option OrderId → List ℕ → Option TextRef → Type 0
+Reads (Some id) text a = Unit
+Reads None text None = ⊥
+Reads None text (Some r) = (r.first + r.len ≤ length text) × (text_in text r ≡ reason_text None)
 
 and_not : (a b : Bool) → (a && b && false) ≡ false
 and_not a b = and_false (a && b)
@@ -55,19 +50,19 @@ and_mid : (a b : Bool) → (a && false && b) ≡ false
 and_mid true b = refl
 and_mid false b = refl
 
-pub settle_shut : (c : Chosen) (a : AsStr) (o : Order) → is_intent (settle c a o) ≡ false
-settle_shut (C.Is id) a o = and_mid (present o.client) (not o.failed)
-settle_shut C.Nothing a o = and_not (present o.client) (not o.submitted)
+pub settle_shut : (c : (Option OrderId)) (a : (Option TextRef)) (o : Order) → is_intent (settle c a o) ≡ false
+settle_shut (Some id) a o = and_mid (present o.client) (not o.failed)
+settle_shut None a o = and_not (present o.client) (not o.submitted)
 
-pub settle_symbol : (c : Chosen) (a : AsStr) (o : Order) → (settle c a o).symbol ≡ o.symbol
-settle_symbol (C.Is id) a o = refl
-settle_symbol C.Nothing a o = refl
+pub settle_symbol : (c : (Option OrderId)) (a : (Option TextRef)) (o : Order) → (settle c a o).symbol ≡ o.symbol
+settle_symbol (Some id) a o = refl
+settle_symbol None a o = refl
 
 -- it does so where more stands after the text
-pub reads_more : (c : Chosen) (s t : List ℕ) (a : AsStr) → Reads c s a → Reads c (s ++ t) a
-reads_more (C.Is id) s t a h = tt
-reads_more C.Nothing s t Str.Nothing h = h
-reads_more C.Nothing s t (Str.Is r) h = (omega (arith, length-append s t, h.0), text_kept s t r h.0 ∙ h.1)
+pub reads_more : (c : (Option OrderId)) (s t : List ℕ) (a : (Option TextRef)) → Reads c s a → Reads c (s ++ t) a
+reads_more (Some id) s t a h = tt
+reads_more None s t None h = h
+reads_more None s t (Some r) h = (omega (arith, length-append s t, h.0), text_kept s t r h.0 ∙ h.1)
 
 -- ---- symbols
 pub same_sym : (y z : Symbol) → same_symbol y z ≡ same_symbol z y
@@ -91,45 +86,45 @@ pub text_is : (y z : Symbol) → Texted z → symbol_is y (symbol_text z) ≡ sa
 text_is y z t = rw (t.word, t.len)
 
 -- ---- an entry's effect on the orders
-small_id : (id : ℕ) → id < 2 ^ 63 → as_i64 (cell_of (bytes_of 8 1 ++ bytes_of 8 id)) ≡ I64.Is (to_z w64 id)
+small_id : (id : ℕ) → id < 2 ^ 63 → as_i64 (cell_of (bytes_of 8 1 ++ bytes_of 8 id)) ≡ Some (to_z w64 id)
 unfolding cell_of cell_by le bytes_of
 small_id id h =
     let k : le 8 (bytes_of 8 id ++ []) ≡ id = le_bytes_of 8 id [] (omega arith) in
-    ap (λ (x : ℕ). I64.Is (to_z w64 x)) k
+    ap (λ (x : ℕ). Some (to_z w64 x)) k
 
-pub entry_id_lem : (id : OrderId) → id.0 < 2 ^ 63 → entry_id (C.Is id) ≡ I64.Is (to_z w64 id.0)
+pub entry_id_lem : (id : OrderId) → id.0 < 2 ^ 63 → entry_id (Some id) ≡ Some (to_z w64 id.0)
 entry_id_lem id h =
     ap (λ (b : Bool). as_i64 (cell_of (cond b (cell_bytes 1 id.0) (cell_bytes 2 id.0)))) (lt-ltb id.0 (2 ^ 63) h) ∙ small_id id.0 h
 
-pub entry_orders : (c : Chosen) (time : ℤ) (n first : ℕ) (y : Symbol) (os : List Order) → Small c
+pub entry_orders : (c : (Option OrderId)) (time : ℤ) (n first : ℕ) (y : Symbol) (os : List Order) → Small c
     → orders_step (entry_event c time n first y) os
     ≡ change_first (has_text (symbol_text y)) (settle c (entry_reason c (first + length (entry_name c) + y.len))) os
 unfolding orders_by orders_at
-entry_orders (C.Is id) time n first y os h = ap (λ (x : AsI64). submitted_by x (some (symbol_text y)) os) (entry_id_lem id h)
-entry_orders C.Nothing time n first y os h = refl
+entry_orders (Some id) time n first y os h = ap (λ (x : (Option ℤ)). submitted_by x (Some (symbol_text y)) os) (entry_id_lem id h)
+entry_orders None time n first y os h = refl
 
 -- ---- entries for these symbols, numbered after n, whose reasons read as their text; their times and places are free
-pub data Written (c : Chosen) (text : List ℕ) : ℕ → List Symbol → List Event → Type 0 where
+pub data Written (c : (Option OrderId)) (text : List ℕ) : ℕ → List Symbol → List Event → Type 0 where
   end : {n : ℕ} → Written c text n [] []
   more : {n : ℕ} {y : Symbol} {ys : List Symbol} {es : List Event} (time : ℤ) (first : ℕ)
       → Reads c text (entry_reason c (first + length (entry_name c) + y.len)) → Written c text (suc n) ys es
       → Written c text n (y ∷ ys) (entry_event c time (suc n) first y ∷ es)
 
-pub written_more : {c : Chosen} {s : List ℕ} (t : List ℕ) {n : ℕ} {ys : List Symbol} {es : List Event} → Written c s n ys es → Written c (s ++ t) n ys es
+pub written_more : {c : (Option OrderId)} {s : List ℕ} (t : List ℕ) {n : ℕ} {ys : List Symbol} {es : List Event} → Written c s n ys es → Written c (s ++ t) n ys es
 written_more t end = end
 written_more {c} {s} t (more {y} time first r w) =
     more time first (reads_more c s t (entry_reason c (first + length (entry_name c) + y.len)) r) (written_more t w)
 
-pub written_append : {c : Chosen} {text : List ℕ} {n m : ℕ} {ys zs : List Symbol} {es fs : List Event} → Written c text n ys es → m ≡ n + length ys
+pub written_append : {c : (Option OrderId)} {text : List ℕ} {n m : ℕ} {ys zs : List Symbol} {es fs : List Event} → Written c text n ys es → m ≡ n + length ys
     → Written c text m zs fs → Written c text n (ys ++ zs) (es ++ fs)
 written_append {c} {text} {zs} {fs} (end {n}) e v = subst (λ (x : ℕ). Written c text x zs fs) (omega arith) v
 written_append (more time first r w) e v = more time first r (written_append w (omega arith) v)
 
-pub written_length : {c : Chosen} {text : List ℕ} {n : ℕ} {ys : List Symbol} {es : List Event} → Written c text n ys es → length es ≡ length ys
+pub written_length : {c : (Option OrderId)} {text : List ℕ} {n : ℕ} {ys : List Symbol} {es : List Event} → Written c text n ys es → length es ≡ length ys
 written_length end = refl
 written_length (more time first r w) = ap suc (written_length w)
 
-pub written_follow : {c : Chosen} {text : List ℕ} {n : ℕ} {ys : List Symbol} {es : List Event} → Written c text n ys es → Follow n es
+pub written_follow : {c : (Option OrderId)} {text : List ℕ} {n : ℕ} {ys : List Symbol} {es : List Event} → Written c text n ys es → Follow n es
 written_follow end = tt
 written_follow (more time first r w) = (refl, written_follow w)
 
@@ -144,7 +139,7 @@ abbrev pub Avoid : List Symbol → Order → Type 0
 Avoid [] o = Unit
 Avoid (y ∷ ys) o = (has_text (symbol_text y) o ≡ false) × Avoid ys o
 
-pub skipped : {c : Chosen} {text : List ℕ} {n : ℕ} {ys : List Symbol} {es : List Event} → Small c → (o : Order) (os : List Order) → Avoid ys o
+pub skipped : {c : (Option OrderId)} {text : List ℕ} {n : ℕ} {ys : List Symbol} {es : List Event} → Small c → (o : Order) (os : List Order) → Avoid ys o
     → Written c text n ys es → orders_after es (o ∷ os) ≡ o ∷ orders_after es os
 unfolding orders_after change_first
 skipped sm o os h end = refl
@@ -153,7 +148,7 @@ skipped {c} sm o os h (more {n} {y} {ys} {es} time first r w) =
     rw (entry_orders c time (suc n) first y (o ∷ os) sm, entry_orders c time (suc n) first y os sm, h.0)
     (skipped sm o (change_first (has_text (symbol_text y)) (settle c a) os) h.1 w)
 
-pub avoid_settled : (c : Chosen) (a : AsStr) (ys : List Symbol) (o : Order) → Avoid ys o → Avoid ys (settle c a o)
+pub avoid_settled : (c : (Option OrderId)) (a : (Option TextRef)) (ys : List Symbol) (o : Order) → Avoid ys o → Avoid ys (settle c a o)
 avoid_settled c a [] o h = tt
 avoid_settled c a (y ∷ ys) o h = (ap (λ (z : Symbol). symbol_is z (symbol_text y)) (settle_symbol c a o) ∙ h.0, avoid_settled c a ys o h.1)
 

@@ -1,5 +1,6 @@
 -- Recovery of a log and of the entries after it: orders, positions and marks, each apart from the time that recovery begins with. About no function.
 -- Assumes nothing.
+use Rattle.types.specs.declared.order.OrderId.{OrderId}
 use Prim.Native.Nat.{ℕ, zero, suc, ◌+◌}
 use mathlib.Core.Path.{◌≡◌, refl, sym, ap, ◌∙◌}
 use mathlib.Core.List.{List, [], ◌∷◌}
@@ -11,13 +12,9 @@ use borrow.Author.Tests.{eq-eqb}
 use mir.Syntax.{w64}
 use mir.Val.{of_z}
 use Rattle.symbol.specs.declared.Symbol.{Symbol}
-use Rattle.book.specs.declared.event.SequenceNumber.{SequenceNumber}
-use Rattle.book.specs.declared.event.SequenceNumber.TheVariants as N
 use Rattle.checkpoint.specs.Checkpoint.{checkpoint_number}
 use Rattle.checkpoint.specs.declared.Checkpoint.{Checkpoint}
 use Rattle.checkpoint.specs.declared.Checkpoint.TheVariants.{OrderSubmitted, OrderFailed}
-use Rattle.checkpoint.specs.declared.Named.{Named}
-use Rattle.checkpoint.specs.declared.Named.TheVariants as K
 use Rattle.records.specs.declared.position.Position.{Position}
 use Rattle.marks.specs.Marks.{marks_at}
 use Rattle.marks.specs.declared.Marks.{Marks}
@@ -26,13 +23,12 @@ use Rattle.effects.specs.Event.{Event}
 use Rattle.effects.specs.Step.{marks_by, marks_step, positions_at, positions_by, positions_step}
 use Rattle.recovery.specs.Recover.{State, step, steps}
 use Rattle.state.specs.State.{same_truth, same_number, same_int, same_pair, same_marks, same_position, same_lists}
-use Rattle.intents.specs.declared.Chosen.{Chosen}
-use Rattle.intents.specs.declared.Chosen.TheVariants as C
 use Rattle.demand3.specs.Demand3.{number_after, last_number}
 use Rattle.demand3.proofs.Entries.{entry_checkpoint, entry_event}
 use Rattle.sound_state.proofs.Tables.{and_both}
 use Rattle.sound_state.proofs.Recovered.{timeless}
 use Rattle.demand3.proofs.Settling.{Written, end, more, orders_after, same_refl}
+use Rattle.std.specs.Prelude.{Some, None, Option}
 
 -- ---- orders and positions go by themselves
 pub steps_orders : (st : State) (es : List Event) → (steps st es).orders ≡ orders_after es st.orders
@@ -41,10 +37,10 @@ steps_orders st [] = refl
 steps_orders st (e ∷ es) = steps_orders (step e st) es
 
 -- ---- the number is the last checkpoint's
-marks_number : (k : Named) (e : Event) (m : Marks) → (marks_by k e m).number ≡ number_after k e.number m.number
+marks_number : (k : (Option Checkpoint)) (e : Event) (m : Marks) → (marks_by k e m).number ≡ number_after k e.number m.number
 unfolding marks_by marks_at
-marks_number K.Nothing e m = refl
-marks_number (K.Is k) e m = refl
+marks_number None e m = refl
+marks_number (Some k) e m = refl
 
 pub steps_number : (st : State) (es : List Event) → (steps st es).marks.number ≡ last_number st.marks.number es
 unfolding steps last_number
@@ -69,33 +65,33 @@ marked_at k n m =
     }
 
 -- marks without their time, after so many entries
-abbrev pub noted : Chosen → ℕ → Marks → Marks
+abbrev pub noted : Option OrderId → ℕ → Marks → Marks
 noted c zero m = timeless m
 noted c (suc k) m = marked_at (entry_checkpoint c) (m.number + suc k) m
 
-pub noted_number : (c : Chosen) (k : ℕ) (m : Marks) → (noted c k m).number ≡ m.number + k
+pub noted_number : (c : (Option OrderId)) (k : ℕ) (m : Marks) → (noted c k m).number ≡ m.number + k
 noted_number c zero m = omega arith
 noted_number c (suc k) m = refl
 
-noted_step : (c : Chosen) (k : ℕ) (time : ℤ) (n first : ℕ) (y : Symbol) (m : Marks) → m.number ≡ n
+noted_step : (c : (Option OrderId)) (k : ℕ) (time : ℤ) (n first : ℕ) (y : Symbol) (m : Marks) → m.number ≡ n
     → noted c k (marks_step (entry_event c time (suc n) first y) m) ≡ noted c (suc k) m
 unfolding marks_by marks_at
-noted_step (C.Is id) zero time n first y m h = ap (λ (x : ℕ). marked_at OrderSubmitted x m) (omega arith)
-noted_step (C.Is id) (suc k) time n first y m h = ap (λ (x : ℕ). marked_at OrderSubmitted x m) (omega arith)
-noted_step C.Nothing zero time n first y m h = ap (λ (x : ℕ). marked_at OrderFailed x m) (omega arith)
-noted_step C.Nothing (suc k) time n first y m h = ap (λ (x : ℕ). marked_at OrderFailed x m) (omega arith)
+noted_step (Some id) zero time n first y m h = ap (λ (x : ℕ). marked_at OrderSubmitted x m) (omega arith)
+noted_step (Some id) (suc k) time n first y m h = ap (λ (x : ℕ). marked_at OrderSubmitted x m) (omega arith)
+noted_step None zero time n first y m h = ap (λ (x : ℕ). marked_at OrderFailed x m) (omega arith)
+noted_step None (suc k) time n first y m h = ap (λ (x : ℕ). marked_at OrderFailed x m) (omega arith)
 
-entry_number : (c : Chosen) (time : ℤ) (n first : ℕ) (y : Symbol) (m : Marks) → (marks_step (entry_event c time n first y) m).number ≡ n
+entry_number : (c : (Option OrderId)) (time : ℤ) (n first : ℕ) (y : Symbol) (m : Marks) → (marks_step (entry_event c time n first y) m).number ≡ n
 unfolding marks_by marks_at
 entry_number c time n first y m = refl
 
-entry_positions : (c : Chosen) (time : ℤ) (n first : ℕ) (y : Symbol) (ps : List Position) → positions_step (entry_event c time n first y) ps ≡ ps
+entry_positions : (c : (Option OrderId)) (time : ℤ) (n first : ℕ) (y : Symbol) (ps : List Position) → positions_step (entry_event c time n first y) ps ≡ ps
 unfolding positions_by positions_at
-entry_positions (C.Is id) time n first y ps = refl
-entry_positions C.Nothing time n first y ps = refl
+entry_positions (Some id) time n first y ps = refl
+entry_positions None time n first y ps = refl
 
 -- ---- the state after entries, from that before
-pub steps_marks : {c : Chosen} {text : List ℕ} {n : ℕ} {ys : List Symbol} {es : List Event} (st : State) → st.marks.number ≡ n → Written c text n ys es
+pub steps_marks : {c : (Option OrderId)} {text : List ℕ} {n : ℕ} {ys : List Symbol} {es : List Event} (st : State) → st.marks.number ≡ n → Written c text n ys es
     → timeless (steps st es).marks ≡ noted c (length ys) st.marks
 unfolding steps
 steps_marks st h end = refl
@@ -103,7 +99,7 @@ steps_marks {c} st h (more {n} {y} {ys} {es} time first r w) =
     steps_marks (step (entry_event c time (suc n) first y) st) (entry_number c time (suc n) first y st.marks) w
     ∙ noted_step c (length ys) time n first y st.marks h
 
-pub entries_positions : {c : Chosen} {text : List ℕ} {n : ℕ} {ys : List Symbol} {es : List Event} (st : State) → Written c text n ys es
+pub entries_positions : {c : (Option OrderId)} {text : List ℕ} {n : ℕ} {ys : List Symbol} {es : List Event} (st : State) → Written c text n ys es
     → (steps st es).positions ≡ st.positions
 unfolding steps
 entries_positions st end = refl
@@ -115,9 +111,9 @@ truth_self : (b : Bool) → same_truth b b ≡ true
 truth_self true = refl
 truth_self false = refl
 
-number_self : (n : SequenceNumber) → same_number n n ≡ true
-number_self (N.Is n) = eq-eqb n n refl
-number_self N.Nothing = refl
+number_self : (n : (Option ℕ)) → same_number n n ≡ true
+number_self (Some n) = eq-eqb n n refl
+number_self None = refl
 
 int_self : (z : ℤ) → same_int z z ≡ true
 int_self z = eq-eqb (of_z w64 z) (of_z w64 z) refl

@@ -1,5 +1,6 @@
--- Demand 3, of every list of rounds: the proof of `Claim`. About no function.
+-- What every list of rounds does to a log: the proof of `Claim`. About no function.
 -- Assumes nothing.
+use Rattle.types.specs.declared.order.OrderId.{OrderId}
 use Prim.Native.Nat.{ℕ, ◌+◌, ◌≤◌, ◌<◌}
 use mathlib.Core.Path.{◌≡◌, sym, ap, ◌∙◌, subst}
 use mathlib.Core.List.{List, [], ◌∷◌, ◌++◌, map}
@@ -8,7 +9,6 @@ use native.Mathlib.Omega.{arith}
 use lib.IntN.{ℤ, pos}
 use lib.ListN.{length, take, drop}
 use lib.Seq.{take-append_seam, drop-append_seam}
-use Rattle.wire.specs.declared.layout.Layout.TheVariants as L
 use Rattle.wire.proofs.Written.{Bytes, none, more}
 use Rattle.wire.proofs.Records.{Each}
 use Rattle.book.specs.Layout.{book_layout}
@@ -21,7 +21,6 @@ use Rattle.effects.specs.Event.{Event, events_of}
 use Rattle.marks.specs.declared.Marks.{Marks}
 use Rattle.recovery.specs.Recover.{first_state, state_of}
 use Rattle.state.specs.State.{same_marks, same_order, same_lists, same_state}
-use Rattle.state.specs.declared.Equality.TheVariants as E
 use Rattle.sound_state.proofs.Tables.{and_both, each_map}
 use Rattle.sound_state.proofs.Tabled.{text_length_lem}
 use Rattle.sound_state.proofs.Good.{RefsIn}
@@ -29,9 +28,7 @@ use Rattle.sound_state.proofs.GoodBook.{state_good}
 use Rattle.sound_state.proofs.Recovered.{timeless, time_apart}
 use Rattle.sound_state.proofs.StateSound.{states_compared}
 use Rattle.intents.specs.Intents.{chosen}
-use Rattle.intents.specs.declared.Chosen.{Chosen}
 use Rattle.rounds.specs.Rounds.{Round, round_of, next, run}
-use Rattle.rounds.specs.declared.Rounded.TheVariants.{NoRoom}
 use Rattle.demand3.specs.Demand3.{recovered, open_intents, NoRepeat, last_number, added, is_entry, OfIntents, Follow, Small, OneList, Fewer, Uncut, Room, same_recovered, Demand3}
 use Rattle.demand3.specs.Claim.{AreBytes, Premises, equal_answer, Claim}
 use Rattle.demand3.proofs.Settling.{Written, written_length, written_follow}
@@ -44,13 +41,15 @@ use Rattle.demand3.proofs.Calls.{never_full}
 use Rattle.demand3.proofs.OfIntents.{written_of}
 use Rattle.demand3.proofs.OneRound.{led_next, round_fewer}
 use Rattle.demand3.proofs.Uncut.{uncut_room, uncut_led, uncut_shut, uncut_exists}
+use Rattle.std.specs.Prelude.{Ok, Err, Option}
+use Rattle.wire.specs.declared.refusal.Refusal.TheVariants as Refusal
 
 -- ---- two ways to the end agree
-ends_read : {c : Chosen} (s t u v w : List ℕ) {os ps qs : List Order} → v ≡ s ++ t → w ≡ s ++ u → Each (RefsIn (length s)) os → Prog c v os ps → Prog c w os qs
+ends_read : {c : (Option OrderId)} (s t u v w : List ℕ) {os ps qs : List Order} → v ≡ s ++ t → w ≡ s ++ u → Each (RefsIn (length s)) os → Prog c v os ps → Prog c w os qs
     → count_where is_intent ps ≡ 0 → count_where is_intent qs ≡ 0 → same_lists (same_order v w) ps qs ≡ true
 ends_read s t u v w p q f a b h k = rw (p, q) (ends_same s t u f (rw p at a) (rw q at b) h k)
 
-pub led_same : {c : Chosen} {x y z : List ℕ} → Bytes x → book_layout x ≡ L.Sound → Led c x y → Led c x z → open_intents y ≡ 0 → open_intents z ≡ 0
+pub led_same : {c : (Option OrderId)} {x y z : List ℕ} → Bytes x → book_layout x ≡ (Ok tt) → Led c x y → Led c x z → open_intents y ≡ 0 → open_intents z ≡ 0
     → same_recovered y z ≡ true
 unfolding same_recovered same_state
 led_same {c} {x} {y} {z} b s l m p q =
@@ -67,7 +66,7 @@ led_same {c} {x} {y} {z} b s l m p q =
 
 -- ---- every list of rounds
 module _ (broker : List BrokerOrderStatus) (small : Small (chosen broker)) where
-  led_run : (rs : List Round) (x : List ℕ) → Bytes x → book_layout x ≡ L.Sound → NoRepeat (recovered x).orders → OneList broker rs x
+  led_run : (rs : List Round) (x : List ℕ) → Bytes x → book_layout x ≡ (Ok tt) → NoRepeat (recovered x).orders → OneList broker rs x
       → Led (chosen broker) x (run rs x)
   unfolding run
   led_run [] x bx sx d one = led_refl x bx sx
@@ -75,7 +74,7 @@ module _ (broker : List BrokerOrderStatus) (small : Small (chosen broker)) where
       let l = led_next broker small r x bx sx d one.0 in
       led_trans l (led_run rs (next r x) l.bytes l.sound (prog_distinct l.prog d) one.1)
 
-  run_fewer : (rs : List Round) (x : List ℕ) → Bytes x → book_layout x ≡ L.Sound → NoRepeat (recovered x).orders → OneList broker rs x → Fewer rs x
+  run_fewer : (rs : List Round) (x : List ℕ) → Bytes x → book_layout x ≡ (Ok tt) → NoRepeat (recovered x).orders → OneList broker rs x → Fewer rs x
   run_fewer [] x bx sx d one = tt
   run_fewer (r ∷ rs) x bx sx d one =
       let l = led_next broker small r x bx sx d one.0 in
@@ -125,7 +124,7 @@ module _ (broker : List BrokerOrderStatus) (rs : List Round) (log : List ℕ) (p
 
   module _ (e : open_intents (run rs log) ≡ 0) (u : Round) (c : Uncut broker log u) where
     -- unless the uncut round is refused by 3, it has the room that `ends` asks for
-    pub unless_full : ((round_of u log).answer ≡ NoRoom → ⊥) → 0 < open_intents log → Room u log
+    pub unless_full : ((round_of u log).answer ≡ (Err Refusal.NoRoom) → ⊥) → 0 < open_intents log → Room u log
     unless_full = uncut_room broker p.small log (bytes_of_lem log p.bytes) p.formed u c led e
 
     -- the orders agree in the finer meaning too, which reads all five flags of each
@@ -151,10 +150,10 @@ same_whenever a b now then =
     ∙ marks_timeless (recovered a).marks (recovered b).marks in
     rw (m, x.orders, y.orders, x.positions, y.positions)
 
-pub recovered_equal : (a b : List ℕ) → AreBytes a → AreBytes b → book_layout a ≡ L.Sound → book_layout b ≡ L.Sound → (now then : ℤ)
-    → equal_answer a (state_of a now) b (state_of b then) ≡ E.Is (same_recovered a b)
+pub recovered_equal : (a b : List ℕ) → AreBytes a → AreBytes b → book_layout a ≡ (Ok tt) → book_layout b ≡ (Ok tt) → (now then : ℤ)
+    → equal_answer a (state_of a now) b (state_of b then) ≡ Ok (same_recovered a b)
 recovered_equal a b p q s t now then =
-    states_compared a b now then (bytes_of_lem a p) (bytes_of_lem b q) s t ∙ ap E.Is (same_whenever a b now then)
+    states_compared a b now then (bytes_of_lem a p) (bytes_of_lem b q) s t ∙ ap Ok (same_whenever a b now then)
 
 -- ---- the theorem
 pub demand3 : Claim

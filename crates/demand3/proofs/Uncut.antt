@@ -13,8 +13,6 @@ use lib.IntN.{pos}
 use lib.ListN.{length, replicate, length-append}
 use borrow.Author.Tests.{ltb-false, leb-true, le-ltb, lt-ltb, lt-leb, le-leb}
 use Rattle.wire.specs.Layout.{oversize_if, broken_if, sound_if}
-use Rattle.wire.specs.declared.layout.Layout.{Layout}
-use Rattle.wire.specs.declared.layout.Layout.TheVariants as L
 use Rattle.wire.proofs.Written.{Bytes}
 use Rattle.wire.proofs.Bools.{and_left, and_right}
 use Rattle.book.specs.Layout.{book_layout, event_count, row_count, text_length, parts_ok}
@@ -29,7 +27,6 @@ use Rattle.sound_state.proofs.Tabled.{text_length_lem}
 use Rattle.intents.specs.Intents.{chosen, reached, addendum, entry_texts, orders_most}
 use Rattle.join.specs.Join.{joined_length, too_large}
 use Rattle.rounds.specs.Rounds.{Round, Outcome, join_round, round_of, next, done}
-use Rattle.rounds.specs.declared.Rounded.TheVariants.{NoRoom}
 use Rattle.rounds.proofs.Answers.{by_bool, Joinable, Third, round_refused}
 use Rattle.demand3.specs.Demand3.{recovered, open_intents, NoRepeat, reached_by, addendum_of, passes, Small, Uncut, Room}
 use Rattle.demand3.specs.Claim.{SomeUncut}
@@ -39,13 +36,16 @@ use Rattle.intents.proofs.Addenda.{addendum_size}
 use Rattle.demand3.proofs.EntriesJoined.{add_sound, add_reads}
 use Rattle.demand3.proofs.Leading.{Led, led_total, led_count}
 use Rattle.demand3.proofs.OneRound.{Shows, chosen_addendum, addendum_same, reached_open, entered, next_count, led_next}
+use Rattle.std.specs.Prelude.{Ok, Err}
+use Rattle.wire.specs.declared.refusal.Refusal.TheVariants as Refusal
+use Rattle.wire.specs.Layout.{Layout}
 
 -- ---- a sound book is not too large
-size_by : (a : Bool) (l : Layout) → oversize_if a l ≡ L.Sound → a ≡ false
+size_by : (a : Bool) (l : Layout) → oversize_if a l ≡ (Ok tt) → a ≡ false
 size_by true l h = let z : ◌≡◌ {A = ℕ} 0 1 = cc in absurd (omega arith)
 size_by false l h = refl
 
-sound_most : (s : List ℕ) → book_layout s ≡ L.Sound → length s ≤ 1048576
+sound_most : (s : List ℕ) → book_layout s ≡ (Ok tt) → length s ≤ 1048576
 unfolding book_layout
 sound_most s h =
     ltb-false 1048576 (length s)
@@ -68,7 +68,7 @@ by_zero zero h = refl
 by_zero (suc n) h = absurd (h (omega arith))
 
 -- ---- an uncut round on a sound log of bytes
-module _ (broker : List BrokerOrderStatus) (small : Small (chosen broker)) (x : List ℕ) (bx : Bytes x) (sx : book_layout x ≡ L.Sound) (u : Round)
+module _ (broker : List BrokerOrderStatus) (small : Small (chosen broker)) (x : List ℕ) (bx : Bytes x) (sx : book_layout x ≡ (Ok tt)) (u : Round)
     (c : Uncut broker x u) where
   shows : Shows broker u x
   shows a = c.list
@@ -157,7 +157,7 @@ module _ (broker : List BrokerOrderStatus) (small : Small (chosen broker)) (x : 
       ap (λ (o : Outcome). done o.answer) (reconciled f q) ∙ third_done u x b sx t
 
   -- and it has room, unless its answer is 3
-  ready_room : Ready → ((round_of u x).answer ≡ NoRoom → ⊥) → Room u x
+  ready_room : Ready → ((round_of u x).answer ≡ (Err Refusal.NoRoom) → ⊥) → Room u x
   ready_room d full =
       let b = chosen_addendum broker u x in
       let f : First u x =
@@ -183,7 +183,7 @@ module _ (broker : List BrokerOrderStatus) (small : Small (chosen broker)) (x : 
             (ltb-false u.joined (joined_length x b u.k) j);
       }
 
-  pub uncut_room : {y : List ℕ} → Led (chosen broker) x y → open_intents y ≡ 0 → ((round_of u x).answer ≡ NoRoom → ⊥) → 0 < open_intents x → Room u x
+  pub uncut_room : {y : List ℕ} → Led (chosen broker) x y → open_intents y ≡ 0 → ((round_of u x).answer ≡ (Err Refusal.NoRoom) → ⊥) → 0 < open_intents x → Room u x
   uncut_room l e full h = ready_room (ready l e h) full
 
   -- ---- refused or not, it leaves none open
@@ -233,7 +233,7 @@ records_for st (e ∷ es) =
     }
 
 -- and as much for B and for the log as they take
-pub uncut_exists : (sheet log : List ℕ) → sheet_layout sheet ≡ L.Sound → orders_failed sheet ≡ false → SomeUncut sheet log
+pub uncut_exists : (sheet log : List ℕ) → sheet_layout sheet ≡ (Ok tt) → orders_failed sheet ≡ false → SomeUncut sheet log
 uncut_exists sheet log h up =
     let r = records_for (first_state (pos 0)) (events_of log) in
     let n = open_intents log in

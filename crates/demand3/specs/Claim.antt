@@ -1,8 +1,7 @@
--- Demand 3, claimed once: `Claim` is the whole of it, premises and conclusions, as one type. `demand3` of proofs/Theorem.antt proves it.
+-- What rounds do to every log, claimed once: `Claim` is the whole of it, premises and conclusions, as one type. `demand3` of proofs/Theorem.antt proves it.
 -- Assumes nothing.
 use Rattle.std.specs.Prelude.{ℕ, ◌<◌, ◌≡◌, List, [], ◌∷◌, false, ℤ}
 use Rattle.wire.specs.Table.{encoded}
-use Rattle.wire.specs.declared.layout.Layout.TheVariants as L
 use Rattle.book.specs.Layout.{book_layout}
 use Rattle.book.specs.Time.{time_layout}
 use Rattle.sheet.specs.Sheet.{sheet_layout, sheet_orders, orders_failed}
@@ -10,12 +9,11 @@ use Rattle.sheet.specs.declared.BrokerOrderStatus.{BrokerOrderStatus}
 use Rattle.records.specs.Record.{order_bytes, position_bytes}
 use Rattle.recovery.specs.Recover.{State, state_of}
 use Rattle.state.specs.State.{states_equal}
-use Rattle.state.specs.declared.Equality.{Equality}
-use Rattle.state.specs.declared.Equality.TheVariants.{Is}
 use Rattle.intents.specs.Intents.{chosen}
 use Rattle.rounds.specs.Rounds.{Round, round_of}
-use Rattle.rounds.specs.declared.Rounded.TheVariants.{NoRoom}
 use Rattle.demand3.specs.Demand3.{recovered, NoRepeat, Small, OneList, Uncut, Room, same_recovered, Demand3}
+use Rattle.std.specs.Prelude.{Ok, Err, Result, Bool}
+use Rattle.wire.specs.declared.refusal.Refusal.{Refusal}
 
 -- a log is a list of bytes
 abbrev pub AreBytes : List ℕ → Type 0
@@ -26,7 +24,7 @@ AreBytes (b ∷ s) = (b < 256) × AreBytes s
 pub record Premises (broker : List BrokerOrderStatus) (rs : List Round) (log : List ℕ) : Type 0 where
   -- a well-formed log
   pub bytes : AreBytes log
-  pub formed : book_layout log ≡ L.Sound
+  pub formed : book_layout log ≡ (Ok tt)
   -- whose recovered orders repeat no symbol
   pub apart : NoRepeat (recovered log).orders
   -- a broker whose answered queries all show one list, its first order with quantity remaining, if any, numbered at most 2^63 - 1
@@ -40,7 +38,7 @@ pub record SomeUncut (sheet log : List ℕ) : Type 0 where
   pub room : Room round log
 
 -- ---- what `states_equal` answers of two logs, each with the marks and the records of a state
-abbrev pub equal_answer : List ℕ → State → List ℕ → State → Equality
+abbrev pub equal_answer : List ℕ → State → List ℕ → State → Result Bool Refusal
 equal_answer a x b y =
     states_equal a x.marks (encoded order_bytes x.orders) (encoded position_bytes x.positions)
     b y.marks (encoded order_bytes y.orders) (encoded position_bytes y.positions)
@@ -50,10 +48,10 @@ pub record Claim : Type 0 where
   -- of every list of rounds
   pub rounds : (broker : List BrokerOrderStatus) (rs : List Round) (log : List ℕ) → Premises broker rs log → Demand3 broker rs log
   -- with room no round is refused by 3
-  pub room : (r : Round) (log : List ℕ) → AreBytes log → book_layout log ≡ L.Sound → time_layout r.now ≡ L.Sound → Room r log
-      → (round_of r log).answer ≡ NoRoom → ⊥
+  pub room : (r : Round) (log : List ℕ) → AreBytes log → book_layout log ≡ (Ok tt) → time_layout r.now ≡ (Ok tt) → Room r log
+      → (round_of r log).answer ≡ (Err Refusal.NoRoom) → ⊥
   -- for every log and every sound sheet that has not failed there is an uncut round with room
-  pub uncut : (sheet log : List ℕ) → sheet_layout sheet ≡ L.Sound → orders_failed sheet ≡ false → SomeUncut sheet log
+  pub uncut : (sheet log : List ℕ) → sheet_layout sheet ≡ (Ok tt) → orders_failed sheet ≡ false → SomeUncut sheet log
   -- equality of recovered states is what `states_equal` answers, whenever the two were recovered
-  pub equal : (a b : List ℕ) → AreBytes a → AreBytes b → book_layout a ≡ L.Sound → book_layout b ≡ L.Sound → (now then : ℤ)
-      → equal_answer a (state_of a now) b (state_of b then) ≡ Is (same_recovered a b)
+  pub equal : (a b : List ℕ) → AreBytes a → AreBytes b → book_layout a ≡ (Ok tt) → book_layout b ≡ (Ok tt) → (now then : ℤ)
+      → equal_answer a (state_of a now) b (state_of b then) ≡ Ok (same_recovered a b)

@@ -1,16 +1,13 @@
--- The words of demand 3 and its conclusions about a list of rounds. Claim.antt has the premises and the claim.
+-- What a list of rounds does to a log: the words of the claim, and its conclusions. Claim.antt has the premises and the claim.
 -- Assumes nothing.
+use Rattle.types.specs.declared.order.OrderId.{OrderId}
+use Rattle.checkpoint.specs.declared.Checkpoint.{Checkpoint}
+use Rattle.std.specs.Prelude.{Option}
 use Rattle.std.specs.Prelude.{ℕ, suc, ◌^◌, ◌≤◌, ◌<◌, ◌+◌, ◌≡◌, List, [], ◌∷◌, Bool, true, false, ◌&&◌, ltb, pos, length, take, drop, replicate}
-use Rattle.std.proofs.Math.Option.{Option, none, some}
-use Rattle.wire.specs.declared.layout.Layout.TheVariants as L
 use Rattle.symbol.specs.Symbol.{same_symbol, symbol_is}
 use Rattle.symbol.specs.declared.Symbol.{Symbol}
 use Rattle.book.specs.Layout.{book_layout, event_count}
 use Rattle.book.specs.Event.{text_of}
-use Rattle.book.specs.declared.event.SequenceNumber.{SequenceNumber}
-use Rattle.book.specs.declared.event.SequenceNumber.TheVariants as N
-use Rattle.checkpoint.specs.declared.Named.{Named}
-use Rattle.checkpoint.specs.declared.Named.TheVariants as K
 use Rattle.marks.specs.Marks.{number_or_zero}
 use Rattle.sheet.specs.Sheet.{sheet_layout, sheet_orders, orders_failed}
 use Rattle.sheet.specs.declared.BrokerOrderStatus.{BrokerOrderStatus}
@@ -18,15 +15,13 @@ use Rattle.records.specs.Search.{is_intent, count_where, any_where}
 use Rattle.records.specs.declared.order.Order.{Order}
 use Rattle.effects.specs.Event.{Event, events_of}
 use Rattle.audit.specs.Verdict.{book_verdict}
-use Rattle.audit.specs.declared.validate.Verdict.TheVariants as Ver
 use Rattle.book.specs.Time.{time_layout}
 use Rattle.recovery.specs.Recover.{State, first_state, roomy, state_of}
 use Rattle.state.specs.State.{same_state}
 use Rattle.intents.specs.Intents.{reached, chosen, addendum}
-use Rattle.intents.specs.declared.Chosen.{Chosen}
-use Rattle.intents.specs.declared.Chosen.TheVariants as C
 use Rattle.join.specs.Join.{joined_length}
 use Rattle.rounds.specs.Rounds.{Round, round_of, next, run, done}
+use Rattle.std.specs.Prelude.{Some, None, Ok}
 
 -- ---- recovered, with room for all records; the time is left out of every comparison below
 abbrev pub recovered : List ℕ → State
@@ -45,9 +40,9 @@ NoRepeat [] = Unit
 NoRepeat (o ∷ os) = (any_where (has_symbol o.symbol) os ≡ false) × NoRepeat os
 
 -- the last checkpoint's number, read as 0 if unnumbered or absent
-abbrev pub number_after : Named → SequenceNumber → ℕ → ℕ
-number_after K.Nothing number n = n
-number_after (K.Is k) number n = number_or_zero number
+abbrev pub number_after : Option Checkpoint → Option ℕ → ℕ → ℕ
+number_after None number n = n
+number_after (Some k) number n = number_or_zero number
 
 unfoldable pub last_number : ℕ → List Event → ℕ
 last_number n [] = n
@@ -58,8 +53,8 @@ abbrev pub added : List ℕ → List ℕ → List Event
 added first log = drop (length (events_of first)) (events_of log)
 
 abbrev pub is_text : Symbol → Option (List ℕ) → Bool
-is_text y none = false
-is_text y (some t) = symbol_is y t
+is_text y None = false
+is_text y (Some t) = symbol_is y t
 
 abbrev pub is_entry : Symbol → Event → Bool
 is_entry y e = is_text y e.symbol
@@ -75,7 +70,7 @@ OfIntents os (e ∷ es) = (of_intent os e ≡ true) × OfIntents os es
 -- numbers that follow n without a gap
 abbrev pub Follow : ℕ → List Event → Type 0
 Follow n [] = Unit
-Follow n (e ∷ es) = (e.number ≡ N.Is (suc n)) × Follow (suc n) es
+Follow n (e ∷ es) = (e.number ≡ Some (suc n)) × Follow (suc n) es
 
 -- ---- a round: the symbols of the open intents whose queries were answered, and the addendum B of their entries
 abbrev pub reached_by : Round → List ℕ → List Symbol
@@ -95,9 +90,9 @@ abbrev pub answered : Round → List ℕ → Bool
 answered r log = ltb 0 (length (reached_by r log))
 
 -- ---- the broker: answered queries all show one list, its first order with quantity remaining, if any, numbered at most 2^63 - 1
-abbrev pub Small : Chosen → Type 0
-Small (C.Is id) = id.0 < 2 ^ 63
-Small C.Nothing = Unit
+abbrev pub Small : Option OrderId → Type 0
+Small (Some id) = id.0 < 2 ^ 63
+Small None = Unit
 
 abbrev pub OneList : List BrokerOrderStatus → List Round → List ℕ → Type 0
 OneList list [] log = Unit
@@ -111,12 +106,12 @@ Fewer (r ∷ rs) log =
 
 -- ---- the uncut round joins all of B, with valid times, the broker's list and a 0 for each intent; all of it is said of what the round is given
 pub record Uncut (broker : List BrokerOrderStatus) (log : List ℕ) (u : Round) : Type 0 where
-  pub sheet : sheet_layout u.sheet ≡ L.Sound
+  pub sheet : sheet_layout u.sheet ≡ (Ok tt)
   pub list : sheet_orders u.sheet ≡ broker
   pub up : orders_failed u.sheet ≡ false
   pub zeros : u.queries ≡ replicate (open_intents log) 0
-  pub now : time_layout u.now ≡ L.Sound
-  pub time : time_layout u.time ≡ L.Sound
+  pub now : time_layout u.now ≡ (Ok tt)
+  pub time : time_layout u.time ≡ (Ok tt)
   pub whole : u.k ≡ open_intents log
 
 -- with room: for all records after each event, for B, and for the log with the first k of B's entries
@@ -135,10 +130,10 @@ same_recovered a b =
 -- ---- the conclusions, where a list of rounds began on `log` and ended
 pub record Demand3 (broker : List BrokerOrderStatus) (rs : List Round) (log : List ℕ) : Type 0 where
   -- the log is well formed, and begins with the first log's events
-  pub formed : book_layout (run rs log) ≡ L.Sound
+  pub formed : book_layout (run rs log) ≡ (Ok tt)
   pub kept : take (length (events_of log)) (events_of (run rs log)) ≡ events_of log
   -- an accepted log is still accepted
-  pub accepted : book_verdict log ≡ Ver.Accepted → book_verdict (run rs log) ≡ Ver.Accepted
+  pub accepted : book_verdict log ≡ Ok tt → book_verdict (run rs log) ≡ Ok tt
   -- no intent has two entries
   pub once : (y : Symbol) → count_where (is_entry y) (added log (run rs log)) ≤ 1
   -- each entry is that of an intent open at first

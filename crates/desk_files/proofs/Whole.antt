@@ -8,13 +8,13 @@ use borrow.Author.Tests.{le-leb}
 use lib.ListN.{length}
 use Rattle.wire.specs.Table.{padded}
 use Rattle.reply.specs.Reply.{reply_text, replied, reply_out}
-use Rattle.reply.specs.declared.Replied.{Replied}
-use Rattle.reply.specs.declared.Replied.TheVariants.{Done}
 use Rattle.reply.proofs.Fits.{reply_within, always_done}
+use Rattle.std.specs.Prelude.{Ok, Result}
+use Rattle.wire.specs.declared.refusal.Refusal.{Refusal}
 
-pub whole : (book sheet out : List ℕ) (room : ℕ) (x : Replied) → room ≡ 65536
+pub whole : (book sheet out : List ℕ) (room : ℕ) (x : (Result ℕ Refusal)) → room ≡ 65536
     → (x ≡ replied (reply_text book sheet) room) × (out ≡ reply_out (reply_text book sheet) room)
-    → (x ≡ Done (length (reply_text book sheet))) × (out ≡ padded 65536 (reply_text book sheet))
+    → (x ≡ Ok (length (reply_text book sheet))) × (out ≡ padded 65536 (reply_text book sheet))
 whole book sheet out room x e h =
     let t = reply_text book sheet in (
       h.0 ∙ ap (replied t) e ∙ always_done book sheet,

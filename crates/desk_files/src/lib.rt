@@ -6,17 +6,17 @@
 // buffer are those of its file, so many as are counted, and that the first bytes of `out` are written, is read in the lines below and run by `desk_cases`.
 #![tactic(auto)]
 
-ghost use Rattle.std.specs.Prelude.{◌≡◌, ◌+◌, ◌≤◌, length};
+ghost use Rattle.std.specs.Prelude.{◌≡◌, length};
 ghost use Rattle.wire.specs.Table.{padded};
 ghost use Rattle.desk_files.specs.Printed.{printed};
 
-use reply::Replied;
 use std::io::{ErrorKind, Read};
 use std::rt::Files;
 use std::{fs, io, str};
 
 // Entry. The reply to the first `n` bytes of `book` and the first `m` of `sheet`, at the start of `out`, with zeros after it; its length is returned. A count
-// above 65,537 stands for the whole buffer. The reply always fits, so the second arm is never taken.
+// above 65,537 stands for the whole buffer. The reply always fits, so the length is never the 0. Nothing is
+// allocated: a buffer has room for any file, and how much of it was read stands beside it.
 pub fn answer(
     book: &[u8; 65537],
     n: usize,
@@ -26,10 +26,7 @@ pub fn answer(
 ) -> usize
     ensures { (result ≡ length (printed book.now n sheet.now m)) × (out.new ≡ padded 65536 (printed book.now n sheet.now m)) }
 {
-    match reply::reply(wire::part(book, 0, n), wire::part(sheet, 0, m), out) {
-        Replied::Done(len) => len,
-        Replied::NoRoom => 0,
-    }
+    reply::reply(wire::part(book, 0, n), wire::part(sheet, 0, m), out).unwrap_or(0)
 }
 
 // Says on standard error what failed, and why. That it cannot be said is passed over.
@@ -37,29 +34,19 @@ fn fail(rt: &impl Eprint, what: &str, error: &io::Error) {
     let _ = eprintln!(rt; "{what}: {error}");
 }
 
-// Reads what is left of a file into `buf` from `at` on. Returns how many bytes came: 0 at the file's end, and where reading fails, which is said on standard error.
-fn read_on(rt: &impl Eprint, file: &mut impl Read, path: &str, buf: &mut [u8], at: usize) -> usize
-    requires { at ≤ length buf.old }
-    ensures { at + result ≤ length buf.old }
-{
-    match file.read(&mut buf[at..]) {
-        Ok(n) => n,
-        Err(error) => {
-            fail(rt, path, &error);
-            0
-        }
-    }
-}
-
-// Reads a file from its start into `buf`, as much as there is room for, and returns how many bytes came.
+// Reads a file from its start into `buf`, as much as there is room for, and returns how many bytes came. Where reading fails it says so on standard error, and
+// what came before is kept, so this is a loop: `read_exact` does not say how much that is.
 fn read_file(rt: &impl Eprint, file: &mut impl Read, path: &str, buf: &mut [u8]) -> usize {
     let mut n = 0;
     while n < buf.len() {
-        let more = read_on(rt, file, path, buf, n);
-        if more == 0 {
-            return n;
+        match file.read(&mut buf[n..]) {
+            Ok(0) => break,
+            Ok(more) => n += more,
+            Err(error) => {
+                fail(rt, path, &error);
+                break;
+            }
         }
-        n += more;
     }
     n
 }
@@ -96,7 +83,8 @@ fn print(rt: &(impl Print + Eprint), out: &[u8; 65536], len: usize) {
     }
 }
 
-// Reads a book and a sheet by their paths and prints the reply to them.
+// Reads a book and a sheet by their paths and prints the reply to them. Paths are bytes, of which a `&str` would ask more. Nothing is allocated: fixed buffers,
+// and how many bytes of each count.
 pub fn run(rt: &(impl Files + Print + Eprint), book_path: &[u8], sheet_path: &[u8]) {
     let mut book = [0u8; 65537];
     let n = load(rt, book_path, &mut book);

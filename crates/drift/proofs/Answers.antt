@@ -1,88 +1,59 @@
--- What an answer of `whole` and `entry` tells of the numbers in it.
+-- Answers with one refusal, by the test that decides; and the checked product and difference of i64s.
 -- Assumes nothing.
 use mathlib.Core.Path.{◌≡◌, refl, sym, ap, ◌∙◌}
-use mathlib.Core.Bool.{Bool, true, false, cond}
-use Prim.Native.Nat.{ℕ}
+use mathlib.Core.Bool.{Bool, true, false, not, cond}
 use native.Mathlib.Omega.{arith}
-use lib.IntN.{ℤ, pos, ◌*ℤ◌}
-use lib.Signed.{lt_z}
-use lib.Ieee.{Float}
+use borrow.Author.Tests.{lt-ltb, lt-leb, ltb-true}
+use lib.IntN.{ℤ, pos, negsuc}
+use lib.Signed.{mag, lt_z, le_z}
+use Prim.Native.Nat.{zero, suc, ◌^◌}
 use mir.Syntax.{w64}
 use mir.Val.{SFits, to_z, of_z}
 use mir.ValLaws.{to_z-of_z}
-use Rattle.drift.specs.Entry.{fits64, needed, actual_weight, entry_of, entry_fits}
-use Rattle.drift.specs.Code.{whole_of, weight_answer, made_of}
-use Rattle.drift.specs.declared.whole.Whole.TheVariants as Z
-use Rattle.drift.specs.declared.entry.ReconcileEntry.{ReconcileEntry}
-use Rattle.drift.specs.declared.entry.Weight.TheVariants as W
-use Rattle.drift.specs.declared.entry.Made.TheVariants as M
+use Rattle.std.specs.Prelude.{Option, Some, None, Result, Ok, Err, SomeIff}
+use Rattle.std.specs.Option.{ok_or}
+use Rattle.drift.specs.Entry.{fits64}
+use Rattle.drift.specs.Code.{whole_of}
+use Rattle.wire.specs.declared.refusal.Refusal.{Refusal}
 
 -- a test of a signed number reads it back from its bits
 pub sign_test : (z : ℤ) (b : Bool) → SFits w64 z → lt_z (pos 0) (to_z w64 (of_z w64 z)) ≡ b → lt_z (pos 0) z ≡ b
 sign_test z b h e = ap (lt_z (pos 0)) (sym (to_z-of_z w64 z h)) ∙ e
 
--- ---- a whole number
-never_whole : {A : Type 0} {x : ℤ} → Z.Over ≡ Z.Is x → A
-never_whole h = let z : ◌≡◌ {A = ℕ} 0 1 = cc in absurd (omega arith)
+not_above : (z : ℤ) → lt_z (pos 0) z ≡ not (le_z z (pos 0))
+not_above (pos zero) = refl
+not_above (pos (suc n)) = lt-ltb 0 (suc n) (omega arith) ∙ sym (ap not (lt-leb (suc n) 0 (omega arith)))
+not_above (negsuc n) = refl
 
-pub whole_is : (z x : ℤ) → whole_of z ≡ Z.Is x → (fits64 z ≡ true) × (x ≡ z)
-whole_is z x e = by (fits64 z) refl e
+pub sign_test_below : (z : ℤ) (b : Bool) → SFits w64 z → le_z (to_z w64 (of_z w64 z)) (pos 0) ≡ b → lt_z (pos 0) z ≡ not b
+sign_test_below z b h e = not_above z ∙ ap not (ap (λ (x : ℤ). le_z x (pos 0)) (sym (to_z-of_z w64 z h)) ∙ e)
+
+-- ---- what an answer with one refusal says of its test
+abbrev pub value_if : {A : Type 0} → Bool → A → Result A Refusal
+value_if b x = cond b (Ok x) (Err Refusal.Overflow)
+
+module _ {A : Type 0} where
+  pub value_ok : (b : Bool) (x y : A) → value_if b x ≡ Ok y → (b ≡ true) × (y ≡ x)
+  value_ok true x y h = (refl, grind arith)
+  value_ok false x y h = absurd (grind arith)
+
+  pub value_err : (b : Bool) (x : A) (e : Refusal) → value_if b x ≡ Err e → (b ≡ false) × (e ≡ Refusal.Overflow)
+  value_err true x e h = absurd (grind arith)
+  value_err false x e h = (refl, grind arith)
+
+-- ---- a checked product or difference is the whole number where it is an i64
+pub whole_from : (o : Option ℤ) (z : ℤ) → SomeIff o (SFits w64 z) z → o ≡ whole_of z
+whole_from None z h = by (fits64 z) refl
   where
-    by : (v : Bool) → fits64 z ≡ v → cond v (Z.Is z) Z.Over ≡ Z.Is x → (fits64 z ≡ true) × (x ≡ z)
-    by true q k = (q, cc)
-    by false q k = never_whole k
+    by : (v : Bool) → fits64 z ≡ v → None ≡ cond v (Some z) None
+    by true e = absurd (h (record { sfits = ltb-true (mag z) (2 ^ 63) e }))
+    by false e = refl
+whole_from (Some x) z h = rw (lt-ltb (mag z) (2 ^ 63) h.0.sfits, h.1)
 
-pub whole_over : (z : ℤ) → whole_of z ≡ Z.Over → fits64 z ≡ false
-whole_over z e = by (fits64 z) refl e
+-- a whole number that has to be an i64
+pub whole_or : (z : ℤ) → ok_or (whole_of z) Refusal.Overflow ≡ value_if (fits64 z) z
+whole_or z = by (fits64 z)
   where
-    by : (v : Bool) → fits64 z ≡ v → cond v (Z.Is z) Z.Over ≡ Z.Over → fits64 z ≡ false
-    by true q k = never_whole (sym k)
-    by false q k = q
-
--- ---- a weight
-never_weight : {A : Type 0} {x : Float} → W.Over ≡ W.Is x → A
-never_weight h = let z : ◌≡◌ {A = ℕ} 0 1 = cc in absurd (omega arith)
-
-module _ (quantity price equity : ℤ) where
-  pub weight_is : (x : Float) → weight_answer quantity price equity ≡ W.Is x
-      → (cond (needed price equity) (fits64 (quantity *ℤ price)) true ≡ true) × (x ≡ actual_weight quantity price equity)
-  unfolding weight_answer
-  weight_is x e = by (cond (needed price equity) (fits64 (quantity *ℤ price)) true) refl e
-    where
-      by : (v : Bool) → cond (needed price equity) (fits64 (quantity *ℤ price)) true ≡ v → cond v (W.Is (actual_weight quantity price equity)) W.Over ≡ W.Is x
-          → (cond (needed price equity) (fits64 (quantity *ℤ price)) true ≡ true) × (x ≡ actual_weight quantity price equity)
-      by true q k = (q, cc)
-      by false q k = never_weight k
-
-  pub weight_over : weight_answer quantity price equity ≡ W.Over → cond (needed price equity) (fits64 (quantity *ℤ price)) true ≡ false
-  unfolding weight_answer
-  weight_over e = by (cond (needed price equity) (fits64 (quantity *ℤ price)) true) refl e
-    where
-      by : (v : Bool) → cond (needed price equity) (fits64 (quantity *ℤ price)) true ≡ v → cond v (W.Is (actual_weight quantity price equity)) W.Over ≡ W.Over
-          → cond (needed price equity) (fits64 (quantity *ℤ price)) true ≡ false
-      by true q k = never_weight (sym k)
-      by false q k = q
-
--- ---- an entry
-never_made : {A : Type 0} {x : ReconcileEntry} → M.OutOfRange ≡ M.Is x → A
-never_made h = let z : ◌≡◌ {A = ℕ} 0 1 = cc in absurd (omega arith)
-
-module _ (quantity : ℤ) (weight : Float) (price equity : ℤ) where
-  pub made_is : (x : ReconcileEntry) → made_of quantity weight price equity ≡ M.Is x
-      → (entry_fits quantity weight price equity ≡ true) × (x ≡ entry_of quantity weight price equity)
-  unfolding made_of
-  made_is x e = by (entry_fits quantity weight price equity) refl e
-    where
-      by : (v : Bool) → entry_fits quantity weight price equity ≡ v → cond v (M.Is (entry_of quantity weight price equity)) M.OutOfRange ≡ M.Is x
-          → (entry_fits quantity weight price equity ≡ true) × (x ≡ entry_of quantity weight price equity)
-      by true q k = (q, cc)
-      by false q k = never_made k
-
-  pub made_over : made_of quantity weight price equity ≡ M.OutOfRange → entry_fits quantity weight price equity ≡ false
-  unfolding made_of
-  made_over e = by (entry_fits quantity weight price equity) refl e
-    where
-      by : (v : Bool) → entry_fits quantity weight price equity ≡ v → cond v (M.Is (entry_of quantity weight price equity)) M.OutOfRange ≡ M.OutOfRange
-          → entry_fits quantity weight price equity ≡ false
-      by true q k = never_made (sym k)
-      by false q k = q
+    by : (v : Bool) → ok_or (cond v (Some z) None) Refusal.Overflow ≡ value_if v z
+    by true = refl
+    by false = refl

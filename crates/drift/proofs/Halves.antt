@@ -10,9 +10,12 @@ use native.Mathlib.Omega.{arith}
 use lib.Dec.{ltb}
 use borrow.Author.Tests.{ltb-true, ltb-false}
 use lib.ListN.{length, take, get_or}
-use lib.Seq.{length-take-le, get_or-take}
+use lib.Seq.{length-take-le, get_or-take, take-length}
 use Rattle.drift.specs.Code.{Rising, Within}
 use Rattle.drift.proofs.Ordered.{rise}
+
+pub all_rising : (ks : List ℕ) → Rising ks → Rising (take (length ks) ks)
+all_rising ks r = rw (take-length ks) r
 
 module _ (ks : List ℕ) (n : ℕ) (h : n ≤ length ks) (r : Rising (take n ks)) where
   pub rises : (i j : ℕ) → i < j → j < n → get_or ks i 0 < get_or ks j 0

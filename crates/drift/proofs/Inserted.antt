@@ -3,14 +3,14 @@
 use Prim.Native.Nat.{ℕ, zero, suc, ◌+◌, ◌-◌, ◌≤◌, ◌<◌}
 use mathlib.Core.Path.{◌≡◌, refl, sym, ap, ◌∙◌}
 use mathlib.Core.Logic.{⊎_elim}
-use mathlib.Core.Bool.{Bool, true, false, cond}
+use mathlib.Core.Bool.{Bool, true, false, cond, ◌&&◌}
 use mathlib.Core.List.{List, [], ◌∷◌, ◌++◌, append_assoc}
 use native.Mathlib.Nat.{not-suc-le-zero, le_of_suc-le-suc, sub-zero, suc-sub-suc, eq-or-lt_of_le}
 use native.Mathlib.Omega.{arith}
 use lib.Dec.{ltb, eqb}
 use borrow.Author.Tests.{ltb-true, ltb-false, eqb-true, eqb-false, lt-ltb, le-ltb, eq-eqb, ne_eqb}
 use lib.ListN.{length, take, drop, get_or, set, length-append, length-drop}
-use lib.Seq.{length-take-le, set_at, take_at, take-suc, append_snoc, get_or-set_same, get_or-set_other}
+use lib.Seq.{length-take-le, set_at, take_at, take-suc, append_snoc, get_or-set_same, get_or-set_other, get_or-take}
 use Rattle.symbol.proofs.Text.{and_left, and_right}
 use Rattle.drift.specs.Symbols.{inserted}
 use Rattle.drift.specs.Code.{Rising, Place, found}
@@ -47,6 +47,26 @@ old_in (z ∷ zs) (suc n) x zero h b l e = rw (le-ltb x z (omega arith), le-ltb 
 old_in (z ∷ zs) (suc n) x (suc p) h b l e =
     let k : z < x = b.below 0 (omega arith) in
     rw (le-ltb x z (omega arith), lt-ltb z x k) (ap (λ (s : List ℕ). z ∷ s) (old_in zs n x p (le_of_suc-le-suc h) (shifted b) (le_of_suc-le-suc l) e))
+
+-- ---- the first n alone
+module _ (ks : List ℕ) (n x p : ℕ) (h : n ≤ length ks) where
+  pub front_place : Place (take n ks) (length (take n ks)) x p → Place ks n x p
+  front_place b =
+      let e : length (take n ks) ≡ n = length-take-le n ks h in
+      let m = b.most in
+      record {
+        least = b.least;
+        most = omega arith;
+        below = λ i l. rw (← get_or-take n ks i 0 (omega arith)) (b.below i l);
+        above = λ i l k. rw (← get_or-take n ks i 0 k) (b.above i l (omega arith));
+      }
+
+  pub front_found : found (take n ks) (length (take n ks)) p x ≡ found ks n p x
+  front_found = rw (length-take-le n ks h) (by (ltb p n) refl)
+    where
+      by : (v : Bool) → ltb p n ≡ v → (v && eqb (get_or (take n ks) p 0) x) ≡ (v && eqb (get_or ks p 0) x)
+      by true e = rw (get_or-take n ks p 0 (ltb-true p n e))
+      by false e = refl
 
 module _ (ks : List ℕ) (n x p : ℕ) where
   pub there : found ks n p x ≡ true → (p < n) × (get_or ks p 0 ≡ x)

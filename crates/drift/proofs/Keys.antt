@@ -74,8 +74,3 @@ swap_twice (suc n) x =
 
 pub restored : (x : ℕ) → x < 2 ^ 64 → swapped 8 (swapped 8 x) ≡ x
 restored x h = swap_twice 8 x ∙ mod-eq_of_lt h
-
--- eight bytes by halves
-pub swap_halves : (x : ℕ) → swapped 4 x * 0x1_0000_0000 + swapped 4 (x / 0x1_0000_0000) ≡ swapped 8 x
-unfolding swapped
-swap_halves x = simp div-div-eq-div-mul (omega arith)

@@ -1,7 +1,7 @@
 -- The arrays hold a line for each symbol that is held or targeted, in symbol order.
 -- Assumes nothing.
 use Prim.Native.Nat.{ℕ, ◌+◌, ◌/◌, ◌≤◌, ◌<◌}
-use mathlib.Core.Path.{◌≡◌, sym, ap, ◌∙◌}
+use mathlib.Core.Path.{◌≡◌, sym, ap, subst, ◌∙◌}
 use mathlib.Core.List.{List, [], ◌++◌, map, map-append}
 use native.Mathlib.Nat.{zero-add}
 use native.Mathlib.Omega.{arith}
@@ -14,13 +14,17 @@ use mir.Val.{to_z}
 use Rattle.wire.proofs.Records.{Each, none}
 use Rattle.symbol.specs.Symbol.{before}
 use Rattle.symbol.specs.declared.Symbol.{Symbol}
-use Rattle.drift.specs.Rows.{valued}
+use Rattle.wire.specs.Table.{records}
+use Rattle.wire.proofs.Records.{length_records}
+use Rattle.symbol.proofs.Text.{bytes_of_lem}
+use Rattle.drift.specs.Rows.{valued, row_of, rows_in, held_in, targets_in, prices_in}
+use Rattle.drift.specs.declared.rows.Rows.{Rows}
 use Rattle.drift.specs.Symbols.{keys, sorted_with, symbols_of}
 use Rattle.drift.specs.Report.{line_of, lines_of}
-use Rattle.drift.specs.Code.{swapped, key, key_of, symbol_at, keys_of, last_bits, Noted, line_at, run, Blank}
+use Rattle.drift.specs.Code.{swapped, key, key_of, symbol_at, keys_of, last_bits, Gathered, Noted, line_at, lines_at, run, Blank, SoundLists, ByteLists}
 use Rattle.drift.proofs.Ordered.{each_sorted, each_append, each_at, sorted_append, map_sorted}
 use Rattle.drift.proofs.Sized.{Sized, key_back}
-use Rattle.drift.proofs.Looked.{keys_are, keys_sized, before_key, last_same, run_map}
+use Rattle.drift.proofs.Looked.{keys_are, keys_sized, before_key, last_same, run_map, sound_rows}
 
 unfoldable nobody : Symbol
 nobody = record { word = 0; len = 0 }
@@ -74,10 +78,50 @@ module _ (rp rt rq : List (Symbol × ℕ)) (ps : Each (λ (r : Symbol × ℕ). S
         ∙ run_map (line_at ks us bs cs) (line_of (valued (to_z w64) rp) (valued (of_bits binary64) rt) (valued (to_z w64) rq)) nobody all 0
         (λ i l. ap (line_at ks us bs cs) (zero-add i) ∙ one i (rw (← size) l))
 
+-- ---- the front of an array
+pub front_noted : (ks : List ℕ) (n : ℕ) (rs : List (Symbol × ℕ)) (at after : List ℕ) → n ≤ length ks → Noted (take n ks) (length (take n ks)) rs at after → Noted ks n rs at after
+front_noted ks n rs at after h t =
+    let e : length (take n ks) ≡ n = length-take-le n ks h in
+    record { each = λ k l. rw (get_or-take n ks k 0 l) at (t.each k (omega arith)) }
+
+-- ---- rows that are all there are those in the list
+pub whole_rows : (w : ℕ) (d : List ℕ) (r : Rows) → r.bytes.now ≡ d → r.width ≡ w → r.count ≡ length d / w → records row_of r.width r.count r.bytes.now ≡ rows_in w d
+whole_rows w d r e f g = rw (g, f, e)
+
+-- ---- what a table holds that was blank and took the symbols of two lists and what three lists say
+module _ (p t q : List ℕ) (sound : SoundLists p t q) (bytes : ByteLists p t q) (ks us bs cs : List ℕ) (blank : Blank p t ks us bs cs) where
+  held-rows : (length p / 32 ≤ 1024) × Each (λ (r : Symbol × ℕ). Sized r.0) (rows_in 32 p)
+  held-rows = sound_rows 32 p (bytes_of_lem p (λ i. record { fits = bytes.held i })) sound.held
+
+  wanted-rows : (length t / 24 ≤ 1024) × Each (λ (r : Symbol × ℕ). Sized r.0) (rows_in 24 t)
+  wanted-rows = sound_rows 24 t (bytes_of_lem t (λ i. record { fits = bytes.wanted i })) sound.wanted
+
+  priced-rows : (length q / 24 ≤ 1024) × Each (λ (r : Symbol × ℕ). Sized r.0) (rows_in 24 q)
+  priced-rows = sound_rows 24 q (bytes_of_lem q (λ i. record { fits = bytes.priced i })) sound.priced
+
+  -- the symbols have room
+  pub some_room : (ks1 : List ℕ) (some : ℕ) → length ks1 ≡ length ks → Gathered ks 0 (rows_in 32 p) ks1 some → some + length t / 24 ≤ length ks1
+  some_room ks1 some e g = omega (arith, g.most, length_records row_of 32 (length p / 32) p, blank.room)
+
+  module _ (ks1 ks2 : List ℕ) (some n : ℕ) (e : length ks1 ≡ length ks) (f : length ks2 ≡ length ks1) (g : Gathered ks 0 (rows_in 32 p) ks1 some)
+      (h : Gathered ks1 some (rows_in 24 t) ks2 n) where
+    pub all_room : n ≤ length ks
+    all_room = omega (arith, g.most, length_records row_of 32 (length p / 32) p, h.most, length_records row_of 24 (length t / 24) t, blank.room)
+
+    module _ (us2 bs2 cs2 : List ℕ) (a : Noted ks2 n (rows_in 32 p) us us2) (b : Noted ks2 n (rows_in 24 t) bs bs2) (c : Noted ks2 n (rows_in 24 q) cs cs2) where
+      pub filled_lines : lines_at ks2 us2 bs2 cs2 n ≡ lines_of (held_in p) (targets_in t) (prices_in q)
+      filled_lines =
+          let sorted = h.sorted ∙ ap (λ (z : List ℕ). sorted_with ltb z (keys_of (rows_in 24 t))) g.sorted in
+          let r = all_room in
+          lines_are (rows_in 32 p) (rows_in 24 t) (rows_in 24 q) held-rows.1 wanted-rows.1 priced-rows.1 ks2 us2 bs2 cs2 n (length ks) (omega arith) r sorted
+          (subst (λ (z : List ℕ). Noted ks2 n (rows_in 32 p) z us2) blank.quantities a)
+          (subst (λ (z : List ℕ). Noted ks2 n (rows_in 24 t) z bs2) blank.weights b)
+          (subst (λ (z : List ℕ). Noted ks2 n (rows_in 24 q) z cs2) blank.costs c)
+
 -- ---- arrays of m zeros have room
-pub blank : (m : ℕ) (positions targets : List ℕ) → length positions / 32 + length targets / 24 ≤ m
-    → Blank positions targets (replicate m 0) (replicate m 0) (replicate m 0) (replicate m 0)
-blank m positions targets h =
+pub blank : (m : ℕ) (p t : List ℕ) {ks us bs cs : List ℕ} → length p / 32 + length t / 24 ≤ m
+    → ks ≡ replicate m 0 → us ≡ replicate m 0 → bs ≡ replicate m 0 → cs ≡ replicate m 0 → Blank p t ks us bs cs
+blank m p t h ek eu eb ec =
     let e : length (replicate {A = ℕ} m 0) ≡ m = length-replicate {A = ℕ} m 0 in
     let z : replicate {A = ℕ} m 0 ≡ replicate {A = ℕ} (length (replicate {A = ℕ} m 0)) 0 = ap (λ (k : ℕ). replicate {A = ℕ} k 0) (sym e) in
-    record { room = rw e h; quantities = z; weights = z; costs = z }
+    rw (ek, eu, eb, ec) (record { room = rw e h; quantities = z; weights = z; costs = z })

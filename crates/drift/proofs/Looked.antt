@@ -12,7 +12,7 @@ use lib.ListN.{length, drop, get_or}
 use Rattle.wire.specs.Le.{le}
 use Rattle.wire.specs.Table.{every, records}
 use Rattle.wire.specs.Layout.{oversize_if, sound_if}
-use Rattle.wire.specs.declared.layout.Layout.TheVariants as Lay
+use Rattle.wire.proofs.Layouts.{never_sound}
 use Rattle.wire.proofs.Records.{Each, none, more}
 use Rattle.wire.proofs.Written.{Bytes}
 use Rattle.symbol.specs.Symbol.{wide_field_ok, same_symbol, before}
@@ -25,6 +25,8 @@ use Rattle.drift.specs.Symbols.{last_of, keys, inserted, sorted_with}
 use Rattle.drift.specs.Code.{key, key_of, keys_of, Listed, last_bits, Marked, run}
 use Rattle.drift.proofs.Keys.{key_first}
 use Rattle.drift.proofs.Sized.{Sized, sized, same_by_key}
+use Rattle.std.specs.Prelude.{Ok}
+use Rattle.wire.specs.declared.refusal.Refusal.TheVariants as Refusal
 
 -- ---- a row of a list that is all there
 pub row_there : (s : List ℕ) (w count i : ℕ) → Listed s w count → i < count → w * i + 24 ≤ length s
@@ -52,20 +54,14 @@ rows_sized w zero s b h = none
 rows_sized w (suc n) s b h =
     more (sized s b (and_left (wide_field_ok s) (every wide_field_ok w n (drop w s)) h)) (rows_sized w n (drop w s) (bytes_drop w s b) (and_right (wide_field_ok s) (every wide_field_ok w n (drop w s)) h))
 
-never_sound : {A : Type 0} → Lay.Broken ≡ Lay.Sound → A
-never_sound h = let z : ◌≡◌ {A = ℕ} 0 1 = cc in absurd (omega arith)
-
-never_over : {A : Type 0} → Lay.Oversize ≡ Lay.Sound → A
-never_over h = let z : ◌≡◌ {A = ℕ} 0 1 = cc in absurd (omega arith)
-
-pub sound_rows : (w : ℕ) (d : List ℕ) → Bytes d → rows_layout w d ≡ Lay.Sound → (length d / w ≤ 1024) × Each (λ (r : Symbol × ℕ). Sized r.0) (rows_in w d)
+pub sound_rows : (w : ℕ) (d : List ℕ) → Bytes d → rows_layout w d ≡ (Ok tt) → (length d / w ≤ 1024) × Each (λ (r : Symbol × ℕ). Sized r.0) (rows_in w d)
 unfolding rows_layout table_ok
 sound_rows w d b h = by (ltb 1024 (length d / w)) refl (table_ok wide_field_ok w d) refl h
   where
-    by : (u : Bool) → ltb 1024 (length d / w) ≡ u → (v : Bool) → table_ok wide_field_ok w d ≡ v → oversize_if u (sound_if v) ≡ Lay.Sound
+    by : (u : Bool) → ltb 1024 (length d / w) ≡ u → (v : Bool) → table_ok wide_field_ok w d ≡ v → oversize_if u (sound_if v) ≡ (Ok tt)
         → (length d / w ≤ 1024) × Each (λ (r : Symbol × ℕ). Sized r.0) (rows_in w d)
-    by true e v f k = never_over k
-    by false e false f k = never_sound k
+    by true e v f k = never_sound Refusal.Oversize k
+    by false e false f k = never_sound Refusal.Broken k
     by false e true f k =
         (ltb-false 1024 (length d / w) e, rows_sized w (length d / w) d b (and_right (eqb (length d % w) 0) (every wide_field_ok w (length d / w) d) f))
 

@@ -1,4 +1,4 @@
--- The lines in the arrays, one after the other: what the loops of `report::write_entries` and of `held::sum_worth` ask.
+-- The lines in the arrays, one after the other: what the loops of `Table::put_entries` and of `held::sum_worth` ask.
 -- Assumes nothing.
 use Prim.Native.Nat.{ℕ, zero, suc, ◌+◌, ◌-◌, ◌*◌, ◌≤◌, ◌<◌}
 use mathlib.Core.Path.{◌≡◌, refl, sym, ap, ◌∙◌}
@@ -15,10 +15,11 @@ use Rattle.wire.specs.Table.{encoded, padded}
 use Rattle.wire.proofs.Records.{sets_append, padded_none, padded_behind, length_encoded}
 use Rattle.drift.specs.Symbols.{all_where}
 use Rattle.drift.specs.Entry.{Line, line_entry, line_fits, line_bytes}
-use Rattle.drift.specs.Report.{squares, tracking_error, report_of}
+use Rattle.drift.specs.Report.{squares, tracking_error, drifted, report_of}
 use Rattle.drift.specs.Code.{run}
-use Rattle.drift.specs.declared.report.Drift.TheVariants as D
 use Rattle.drift.proofs.Bytes64.{entry_size}
+use Rattle.std.specs.Prelude.{Ok, Err}
+use Rattle.wire.specs.declared.refusal.Refusal.TheVariants as Refusal
 
 pub length_run : {A : Type 0} (f : ℕ → A) (k n : ℕ) → length (run f k n) ≡ n
 unfolding run
@@ -92,15 +93,15 @@ module _ (f : ℕ → Line) (n : ℕ) (equity : ℤ) where
       ap (λ (z : List ℕ). sets z 0 s) (sym (padded_none room)) ∙ padded_behind room [] s fit
 
   -- ---- the answer
-  pub out_of_range : (room : ℕ) → all_where (line_fits equity) (run f 0 n) ≡ false → D.OutOfRange ≡ report_of (run f 0 n) equity room
+  pub out_of_range : (room : ℕ) → all_where (line_fits equity) (run f 0 n) ≡ false → (Err Refusal.Overflow) ≡ report_of (run f 0 n) equity room
   unfolding report_of
   out_of_range room e = rw e
 
-  pub no_room : (room : ℕ) → all_where (line_fits equity) (run f 0 n) ≡ true → room < 64 * n → D.NoRoom ≡ report_of (run f 0 n) equity room
+  pub no_room : (room : ℕ) → all_where (line_fits equity) (run f 0 n) ≡ true → room < 64 * n → (Err Refusal.NoRoom) ≡ report_of (run f 0 n) equity room
   unfolding report_of
   no_room room e h = rw (e, length_run f 0 n, lt-leb (64 * n) room h)
 
   pub done : (room : ℕ) (sum : Float) → all_where (line_fits equity) (run f 0 n) ≡ true → 64 * n ≤ room
-      → sum ≡ squares (of_bits binary64 0) (map (line_entry equity) (run f 0 n)) → D.Done n (tracking_error sum n) ≡ report_of (run f 0 n) equity room
+      → sum ≡ squares (of_bits binary64 0) (map (line_entry equity) (run f 0 n)) → Ok (drifted n (tracking_error sum n)) ≡ report_of (run f 0 n) equity room
   unfolding report_of
   done room sum e h q = rw (e, length_run f 0 n, le-leb (64 * n) room h, q)

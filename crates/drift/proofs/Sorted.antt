@@ -11,7 +11,6 @@ use lib.Dec.{ltb}
 use lib.ListN.{length, get_or, length-map, get_or-map}
 use mir.Syntax.{w64}
 use mir.Val.{to_z}
-use Rattle.wire.specs.declared.layout.Layout.TheVariants.{Sound}
 use Rattle.wire.proofs.Written.{Bytes}
 use Rattle.wire.proofs.Records.{Each, none, more}
 use Rattle.symbol.specs.Symbol.{same_symbol, before}
@@ -24,6 +23,7 @@ use Rattle.drift.specs.Code as Code
 use Rattle.drift.proofs.Ordered.{rise, rising_sorted, map_sorted, each_inserted, each_append}
 use Rattle.drift.proofs.Sized.{Sized, key_back}
 use Rattle.drift.proofs.Looked.{sound_rows, keys_sized, before_key}
+use Rattle.std.specs.Prelude.{Ok}
 
 -- ---- strictly in order
 pub in_order : (ys : List Symbol) (i j : ℕ) (d : Symbol) → i < j → j < length (symbols_of ys) → before (get_or (symbols_of ys) i d) (get_or (symbols_of ys) j d) ≡ true
@@ -87,7 +87,7 @@ unfolding any_where
 same_symbols ys ps y = any_sorted (λ (z : Symbol). same_symbol z y) [] ys none ps
 
 -- of sound lists: a symbol has a line where it is held or targeted
-pub sound_symbols : (p t : List ℕ) → Bytes p → Bytes t → rows_layout 32 p ≡ Sound → rows_layout 24 t ≡ Sound → (y : Symbol)
+pub sound_symbols : (p t : List ℕ) → Bytes p → Bytes t → rows_layout 32 p ≡ (Ok tt) → rows_layout 24 t ≡ (Ok tt) → (y : Symbol)
     → any_where (λ (z : Symbol). same_symbol z y) (symbols_of (keys (held_in p) ++ keys (targets_in t)))
     ≡ any_where (λ (z : Symbol). same_symbol z y) (keys (held_in p) ++ keys (targets_in t))
 sound_symbols p t b c h k y =

@@ -7,27 +7,23 @@ use Rattle.std.specs.Float.Ieee.{of_bits}
 use Rattle.std.specs.Int.{w64}
 use Rattle.std.proofs.Common.{to_z}
 use Rattle.symbol.specs.declared.Symbol.{Symbol}
-use Rattle.wire.specs.declared.layout.Layout.TheVariants.{Sound}
 use Rattle.drift.specs.Rows.{rows_layout}
 use Rattle.drift.specs.Symbols.{sorted_with}
 use Rattle.drift.specs.Entry.{Line, fits64, needed, actual_weight, entry_of, entry_fits}
-use Rattle.drift.specs.declared.entry.Made.{Made}
-use Rattle.drift.specs.declared.entry.Made.TheVariants as M
-use Rattle.drift.specs.declared.entry.Weight.{Weight}
-use Rattle.drift.specs.declared.entry.Weight.TheVariants as W
-use Rattle.drift.specs.declared.whole.Whole.{Whole}
-use Rattle.drift.specs.declared.whole.Whole.TheVariants as Z
+use Rattle.drift.specs.declared.entry.ReconcileEntry.{ReconcileEntry}
+use Rattle.std.specs.Prelude.{Some, None, Ok, Err, Option, Result}
+use Rattle.wire.specs.declared.refusal.Refusal.{Refusal}
 
 -- ---- answers
-abbrev pub whole_of : ℤ → Whole
-whole_of z = cond (fits64 z) (Z.Is z) Z.Over
+abbrev pub whole_of : ℤ → Option ℤ
+whole_of z = cond (fits64 z) (Some z) None
 
-unfoldable pub weight_answer : ℤ → ℤ → ℤ → Weight
+unfoldable pub weight_answer : ℤ → ℤ → ℤ → Result Float Refusal
 weight_answer quantity price equity =
-    cond (cond (needed price equity) (fits64 (quantity *ℤ price)) true) (W.Is (actual_weight quantity price equity)) W.Over
+    cond (cond (needed price equity) (fits64 (quantity *ℤ price)) true) (Ok (actual_weight quantity price equity)) (Err Refusal.Overflow)
 
-unfoldable pub made_of : ℤ → Float → ℤ → ℤ → Made
-made_of quantity weight price equity = cond (entry_fits quantity weight price equity) (M.Is (entry_of quantity weight price equity)) M.OutOfRange
+unfoldable pub made_of : ℤ → Float → ℤ → ℤ → Result ReconcileEntry Refusal
+made_of quantity weight price equity = cond (entry_fits quantity weight price equity) (Ok (entry_of quantity weight price equity)) (Err Refusal.Overflow)
 
 -- ---- a symbol's key: its number with its n bytes the other way round. Symbols are in order as their keys are, and a key's key is the number again
 unfoldable pub swapped : ℕ → ℕ → ℕ
@@ -116,9 +112,15 @@ lines_at ks qs ts ps n = run (line_at ks qs ts ps) 0 n
 -- ---- what the code that fills the arrays and reads them is given: lists that are sound, arrays that are zero and have room for a symbol of each row
 -- held or targeted, n lines
 pub record SoundLists (positions targets prices : List ℕ) : Type 0 where
-  pub held : rows_layout 32 positions ≡ Sound
-  pub wanted : rows_layout 24 targets ≡ Sound
-  pub priced : rows_layout 24 prices ≡ Sound
+  pub held : rows_layout 32 positions ≡ (Ok tt)
+  pub wanted : rows_layout 24 targets ≡ (Ok tt)
+  pub priced : rows_layout 24 prices ≡ (Ok tt)
+
+-- their elements are bytes
+pub record ByteLists (positions targets prices : List ℕ) : Type 0 where
+  pub held : (k : ℕ) → get_or positions k 0 < 2 ^ 8
+  pub wanted : (k : ℕ) → get_or targets k 0 < 2 ^ 8
+  pub priced : (k : ℕ) → get_or prices k 0 < 2 ^ 8
 
 pub record Blank (positions targets ks qs ts ps : List ℕ) : Type 0 where
   pub room : length positions / 32 + length targets / 24 ≤ length ks

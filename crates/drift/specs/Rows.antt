@@ -9,10 +9,10 @@ use Rattle.std.proofs.Common.{to_z}
 use Rattle.wire.specs.Le.{le}
 use Rattle.wire.specs.Table.{records}
 use Rattle.wire.specs.Layout.{oversize_if, sound_if}
-use Rattle.wire.specs.declared.layout.Layout.{Layout}
 use Rattle.symbol.specs.Symbol.{wide_field_ok, field_symbol}
 use Rattle.symbol.specs.declared.Symbol.{Symbol}
 use Rattle.records.specs.Record.{table_ok}
+use Rattle.wire.specs.Layout.{Layout}
 
 -- a row: its symbol, and the number in its eight bytes
 abbrev pub row_of : List ℕ → Symbol × ℕ

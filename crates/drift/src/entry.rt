@@ -4,11 +4,10 @@ ghost use Rattle.std.proofs.lemmas.List.Edits.{sets};
 ghost use Rattle.drift.specs.Entry.{target_shares, entry_bytes};
 ghost use Rattle.drift.specs.Code.{weight_answer, made_of, key, symbol_at};
 
-use crate::whole;
-use crate::whole::Whole;
 use crate::words::{key_of, len_of};
 use float::bits::{nearest_i64, saturating_i64, to_bits};
 use records::words::put_four;
+use wire::refusal::Refusal;
 
 #[derive(Clone, Copy)]
 pub struct ReconcileEntry {
@@ -20,34 +19,15 @@ pub struct ReconcileEntry {
     pub diff_shares: i64,
 }
 
-// A weight, or that the product in it is outside i64.
-#[derive(Clone, Copy)]
-pub enum Weight {
-    Is(f64),
-    Over,
-}
-
-// An entry, or that refusal 12 is due.
-#[derive(Clone, Copy)]
-pub enum Made {
-    Is(ReconcileEntry),
-    OutOfRange,
-}
-
 // What is held as a part of equity. The product is made with equity and price above 0 only.
-fn actual_weight(quantity: i64, price: i64, equity: i64) -> Weight
+fn actual_weight(quantity: i64, price: i64, equity: i64) -> Result<f64, Refusal>
     ensures { result ≡ weight_answer quantity price equity }
 {
-    if 0 < equity {
-        if 0 < price {
-            let product = whole::times(quantity, price);
-            let Whole::Is(worth) = product else {
-                return Weight::Over;
-            };
-            return Weight::Is(nearest_i64(worth) / nearest_i64(equity));
-        }
+    if equity <= 0 || price <= 0 {
+        return Ok(0.0);
     }
-    Weight::Is(0.0)
+    let worth = quantity.checked_mul(price).ok_or(Refusal::Overflow)?;
+    Ok(nearest_i64(worth) / nearest_i64(equity))
 }
 
 // The shares that a target comes to.
@@ -62,25 +42,26 @@ fn target_shares(weight: f64, price: i64, equity: i64) -> i64
 }
 
 // The entry of a symbol.
-pub fn entry_of(quantity: i64, weight: f64, price: i64, equity: i64) -> Made
+pub fn entry_of(
+    quantity: i64,
+    weight: f64,
+    price: i64,
+    equity: i64,
+) -> Result<ReconcileEntry, Refusal>
     ensures { result ≡ made_of quantity weight price equity }
 {
-    let held = actual_weight(quantity, price, equity);
-    let Weight::Is(actual) = held else {
-        return Made::OutOfRange;
-    };
-    let shares = target_shares(weight, price, equity);
-    let difference = whole::minus(quantity, shares);
-    let Whole::Is(diff) = difference else {
-        return Made::OutOfRange;
-    };
-    Made::Is(ReconcileEntry {
+    let actual_weight = actual_weight(quantity, price, equity)?;
+    let target_shares = target_shares(weight, price, equity);
+    let diff_shares = quantity
+        .checked_sub(target_shares)
+        .ok_or(Refusal::Overflow)?;
+    Ok(ReconcileEntry {
         target_weight: weight,
-        actual_weight: actual,
-        diff_weight: actual - weight,
-        target_shares: shares,
+        actual_weight,
+        diff_weight: actual_weight - weight,
+        target_shares,
         actual_shares: quantity,
-        diff_shares: diff,
+        diff_shares,
     })
 }
 
@@ -100,8 +81,8 @@ pub fn put_entry(d: &mut [u8], at: usize, x: u64, e: ReconcileEntry)
         to_bits(e.target_weight),
         to_bits(e.actual_weight),
     );
-    let target = wire::unsigned(e.target_shares);
-    let actual = wire::unsigned(e.actual_shares);
-    let diff = wire::unsigned(e.diff_shares);
+    let target = e.target_shares.cast_unsigned();
+    let actual = e.actual_shares.cast_unsigned();
+    let diff = e.diff_shares.cast_unsigned();
     put_four(d, at + 32, to_bits(e.diff_weight), target, actual, diff);
 }

@@ -9,5 +9,5 @@
 pub mod entry;
 pub mod report;
 pub mod rows;
-pub mod whole;
+pub mod table;
 pub mod words;

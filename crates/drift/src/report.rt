@@ -1,148 +1,83 @@
 // `reconcile`: the entries of what is held against what is wanted, and the tracking error.
-ghost use Rattle.std.specs.Prelude.{◌≡◌, max, length, replicate};
+ghost use Rattle.std.specs.Prelude.{◌≡◌, max, length, replicate, OnOk};
+ghost use Rattle.wire.specs.Table.{encoded, padded};
+ghost use Rattle.drift.specs.Entry.{line_bytes};
 ghost use Rattle.drift.specs.Rows.{held_in, targets_in, prices_in};
-ghost use Rattle.drift.specs.Report.{lines_of, tracking_error, Reported, lists_layout, drift_of, drift_bytes};
-ghost use Rattle.drift.specs.Code.{lines_at, SoundLists, Blank, Filled};
+ghost use Rattle.drift.specs.Report.{lines_of, tracking_error, Reported, report_of, drift_of, drift_bytes};
+ghost use Rattle.drift.specs.Code.{lines_at, Blank, Filled};
 
-use crate::entry::Made;
-use crate::{entry, rows, words};
-use wire::layout;
-use wire::layout::Layout;
+use crate::rows::Lists;
+use crate::table::Table;
+use crate::{entry, rows};
+use wire::refusal::Refusal;
 
-// What `reconcile` answers: the count of entries and the tracking error in percent, or a refusal.
+// How many entries there are, and the tracking error.
 #[derive(Clone, Copy)]
-pub enum Drift {
-    Done(u32, f64),
-    // Refusal 1.
-    Oversize,
-    // Refusal 2.
-    Broken,
-    // Refusal 11.
-    BadWeight,
-    // Refusal 12.
-    OutOfRange,
-    // Refusal 3.
-    NoRoom,
-}
-
-fn at_least_one(n: usize) -> u64
-    ensures { result ≡ max n 1 }
-{
-    if n == 0 { 1 } else { n as u64 }
+pub struct Drifted {
+    pub count: u32,
+    pub tracking_error_pct: f64,
 }
 
 // The tracking error of n entries whose squared differences come to `sum`.
 fn tracking_error(sum: f64, n: usize) -> f64
     ensures { result ≡ tracking_error sum n }
 {
-    float::root::sqrt(sum / float::bits::nearest_u64(at_least_one(n))) * 100.0
+    float::root::sqrt(sum / float::bits::nearest_u64(n.max(1) as u64)) * 100.0
 }
 
-// Writes the entry of each line into `entries`, which is zero before. Where there is no room the entries are made all the same, since refusal 12
-// comes first.
-fn write_entries(
-    keys: &[u64],
-    quantities: &[u64],
-    weights: &[u64],
-    costs: &[u64],
-    n: usize,
-    equity: i64,
-    entries: &mut [u8],
-) -> Drift
-    requires fact_1 { Filled n keys.now quantities.now weights.now costs.now }
-    requires fact_2 { entries.old ≡ replicate (length entries.old) 0 }
-    ensures { Reported result entries.new (lines_at keys.now quantities.now weights.now costs.now n) equity (length entries.old) }
-{
-    let mut sum = 0.0;
-    let mut k = 0;
-    while k < n {
-        let quantity = wire::signed(quantities[k]);
-        let weight = float::bits::from_bits(weights[k]);
-        let made = entry::entry_of(quantity, weight, wire::signed(costs[k]), equity);
-        let Made::Is(e) = made else {
+impl<const N: usize> Table<N> {
+    // Writes the entry of each of the first n lines of the table into `entries`, which is zero before: n is what `fill` gave, and the table has a fixed size.
+    // Where there is no room the entries are made all the same, since refusal 12 comes first.
+    fn put_entries(&self, n: usize, equity: i64, entries: &mut [u8]) -> Result<Drifted, Refusal>
+        requires filled { Filled n self.now.keys self.now.quantities self.now.weights self.now.costs }
+        requires zero { entries.old ≡ replicate (length entries.old) 0 }
+        ensures answer { result ≡ report_of (lines_at self.now.keys self.now.quantities self.now.weights self.now.costs n) equity (length entries.old) }
+        ensures written { OnOk result (entries.new ≡ padded (length entries.old) (encoded (line_bytes equity) (lines_at self.now.keys self.now.quantities self.now.weights self.now.costs n))) }
+    {
+        let mut sum = 0.0;
+        for k in 0..n {
+            let quantity = self.quantities[k].cast_signed();
+            let weight = float::bits::from_bits(self.weights[k]);
+            let e = entry::entry_of(quantity, weight, self.costs[k].cast_signed(), equity)?;
+            entry::put_entry(entries, 64 * k, self.keys[k], e);
+            sum += e.diff_weight * e.diff_weight;
+        }
+        if entries.len() / 64 < n {
+            return Err(Refusal::NoRoom);
+        }
+        Ok(Drifted {
+            count: n as u32,
+            tracking_error_pct: tracking_error(sum, n),
+        })
+    }
+
+    // The entries of lists, by a table with no symbol yet. A refusal leaves zeros. That the entries are zero before stays a clause, here, above and below:
+    // it is so at the call's begin alone, so a type that has it would own the buffer, and C lends that.
+    fn report(&mut self, lists: Lists, equity: i64, entries: &mut [u8]) -> Result<Drifted, Refusal>
+        requires blank { Blank lists.positions.now lists.targets.now self.old.keys self.old.quantities self.old.weights self.old.costs }
+        requires zero { entries.old ≡ replicate (length entries.old) 0 }
+        ensures { Reported result entries.new (lines_of (held_in lists.entry.positions.now) (targets_in lists.entry.targets.now) (prices_in lists.entry.prices.now)) equity (length entries.old) }
+    {
+        let n = self.fill(lists);
+        let drift = self.put_entries(n, equity, entries);
+        if drift.is_err() {
             wire::clear(entries);
-            return Drift::OutOfRange;
-        };
-        entry::put_entry(entries, 64 * k, keys[k], e);
-        sum = sum + e.diff_weight * e.diff_weight;
-        k += 1;
+        }
+        drift
     }
-    if entries.len() / 64 < n {
-        wire::clear(entries);
-        return Drift::NoRoom;
-    }
-    Drift::Done(n as u32, tracking_error(sum, n))
 }
 
-// The entries of lists that are sound, by four arrays that are zero.
-fn report_in(
-    positions: &[u8],
-    targets: &[u8],
-    prices: &[u8],
-    equity: i64,
-    keys: &mut [u64],
-    quantities: &mut [u64],
-    weights: &mut [u64],
-    costs: &mut [u64],
-    entries: &mut [u8],
-) -> Drift
-    requires fact_1 { SoundLists positions.now targets.now prices.now }
-    requires fact_2 { Blank positions.now targets.now keys.old quantities.old weights.old costs.old }
-    requires fact_3 { entries.old ≡ replicate (length entries.old) 0 }
-    ensures { Reported result entries.new (lines_of (held_in positions.now) (targets_in targets.now) (prices_in prices.now)) equity (length entries.old) }
+// The entries of lists. Short lists are worked on in a short table, which takes little to clear. The choice stands here and in `held::value`, with other sizes
+// and another answer: a closure for it could not take a table of either size.
+fn report(lists: Lists, equity: i64, entries: &mut [u8]) -> Result<Drifted, Refusal>
+    requires { entries.old ≡ replicate (length entries.old) 0 }
+    ensures { Reported result entries.new (lines_of (held_in lists.entry.positions.now) (targets_in lists.entry.targets.now) (prices_in lists.entry.prices.now)) equity (length entries.old) }
 {
-    let n = words::lines(positions, targets, prices, keys, quantities, weights, costs);
-    write_entries(keys, quantities, weights, costs, n, equity, entries)
-}
-
-// The entries of lists that are sound. Short lists are worked on in short arrays.
-fn report(positions: &[u8], targets: &[u8], prices: &[u8], equity: i64, entries: &mut [u8]) -> Drift
-    requires fact_1 { SoundLists positions.now targets.now prices.now }
-    requires fact_2 { entries.old ≡ replicate (length entries.old) 0 }
-    ensures { Reported result entries.new (lines_of (held_in positions.now) (targets_in targets.now) (prices_in prices.now)) equity (length entries.old) }
-{
-    if positions.len() / 32 + targets.len() / 24 <= 32 {
-        let mut keys = [0u64; 32];
-        let mut quantities = [0u64; 32];
-        let mut weights = [0u64; 32];
-        let mut costs = [0u64; 32];
-        return report_in(
-            positions,
-            targets,
-            prices,
-            equity,
-            &mut keys,
-            &mut quantities,
-            &mut weights,
-            &mut costs,
-            entries,
-        );
+    if lists.positions.len() / 32 + lists.targets.len() / 24 <= 32 {
+        Table::<32>::new().report(lists, equity, entries)
+    } else {
+        Table::<2048>::new().report(lists, equity, entries)
     }
-    let mut keys = [0u64; 2048];
-    let mut quantities = [0u64; 2048];
-    let mut weights = [0u64; 2048];
-    let mut costs = [0u64; 2048];
-    report_in(
-        positions,
-        targets,
-        prices,
-        equity,
-        &mut keys,
-        &mut quantities,
-        &mut weights,
-        &mut costs,
-        entries,
-    )
-}
-
-// Refusals 1 and 2 of the three lists.
-fn check_lists(positions: &[u8], targets: &[u8], prices: &[u8]) -> Layout
-    ensures { result ≡ lists_layout positions.now targets.now prices.now }
-{
-    let held = rows::check_rows(positions, 32);
-    let wanted = rows::check_rows(targets, 24);
-    let priced = rows::check_rows(prices, 24);
-    layout::both(held, layout::both(wanted, priced))
 }
 
 // Entry. The drift of what is held (records of 32 bytes) against targets and prices (rows of 24), at an equity in cents: an entry of 64 bytes for each
@@ -153,20 +88,13 @@ pub fn reconcile(
     prices: &[u8],
     equity: i64,
     entries: &mut [u8],
-) -> Drift
+) -> Result<Drifted, Refusal>
     ensures { (result ≡ drift_of positions.now targets.now prices.now equity (length entries.old)) × (entries.new ≡ drift_bytes positions.now targets.now prices.now equity (length entries.old)) }
 {
     wire::clear(entries);
-    let tested = check_lists(positions, targets, prices);
-    match tested {
-        Layout::Oversize => Drift::Oversize,
-        Layout::Broken => Drift::Broken,
-        Layout::Sound => {
-            if rows::weights_ok(targets, targets.len() / 24) {
-                report(positions, targets, prices, equity, entries)
-            } else {
-                Drift::BadWeight
-            }
-        }
+    let lists = Lists::checked(positions, targets, prices)?;
+    if !rows::weights_ok(targets, targets.len() / 24) {
+        return Err(Refusal::BadWeight);
     }
+    report(lists, equity, entries)
 }

@@ -1,28 +1,19 @@
 -- The numbers of drift's answers and of a held value: the refusal, and two. Definitions only.
-use Rattle.std.specs.Prelude.{ℕ}
+use Rattle.std.specs.Prelude.{ℕ, Ok, Err, Result, ℤ}
 use Rattle.std.specs.Float.{binary64}
 use Rattle.std.specs.Float.Ieee.{to_bits}
 use Rattle.std.specs.Int.{w64}
 use Rattle.std.proofs.Common.{of_z}
-use Rattle.drift.specs.Report.{drift_number}
-use Rattle.held.specs.Value.{held_number}
-use Rattle.drift.specs.declared.report.Drift.{Drift}
-use Rattle.drift.specs.declared.report.Drift.TheVariants as D
-use Rattle.held.specs.declared.Held.{Held}
-use Rattle.held.specs.declared.Held.TheVariants as H
+use Rattle.drift.specs.declared.report.Drifted.{Drifted}
+use Rattle.wire.specs.Layout.{refusal_number}
+use Rattle.wire.specs.declared.refusal.Refusal.{Refusal}
 
 -- how many entries, and the bits of the tracking error
-abbrev pub drift_numbers : Drift → ℕ × ℕ × ℕ
-drift_numbers (D.Done n x) = (drift_number (D.Done n x), n, to_bits binary64 x)
-drift_numbers D.Oversize = (drift_number D.Oversize, 0, 0)
-drift_numbers D.Broken = (drift_number D.Broken, 0, 0)
-drift_numbers D.BadWeight = (drift_number D.BadWeight, 0, 0)
-drift_numbers D.OutOfRange = (drift_number D.OutOfRange, 0, 0)
-drift_numbers D.NoRoom = (drift_number D.NoRoom, 0, 0)
+abbrev pub drift_numbers : Result Drifted Refusal → ℕ × ℕ × ℕ
+drift_numbers (Ok d) = (0, d.count, to_bits binary64 d.tracking_error_pct)
+drift_numbers (Err r) = (refusal_number r, 0, 0)
 
 -- the value, as 64 bits
-abbrev pub held_numbers : Held → ℕ × ℕ × ℕ
-held_numbers (H.Value z) = (held_number (H.Value z), of_z w64 z, 0)
-held_numbers H.Oversize = (held_number H.Oversize, 0, 0)
-held_numbers H.Broken = (held_number H.Broken, 0, 0)
-held_numbers H.OutOfRange = (held_number H.OutOfRange, 0, 0)
+abbrev pub held_numbers : Result ℤ Refusal → ℕ × ℕ × ℕ
+held_numbers (Ok z) = (0, of_z w64 z, 0)
+held_numbers (Err r) = (refusal_number r, 0, 0)

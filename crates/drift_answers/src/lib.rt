@@ -6,37 +6,33 @@ ghost use Rattle.answers.specs.Answer.{numbers};
 ghost use Rattle.drift_answers.specs.DriftAnswer.{drift_numbers, held_numbers};
 
 use answers::Numbers;
-use drift::report::Drift;
-use held::Held;
+use drift::report::Drifted;
+use wire::refusal::Refusal;
 
-pub fn drift_numbers(d: Drift) -> Numbers
+// Two arms, as each answer's numbers: `answers::Numbers` says why.
+pub fn drift_numbers(d: Result<Drifted, Refusal>) -> Numbers
     ensures { result ≡ numbers (drift_numbers d) }
 {
     match d {
-        Drift::Done(n, x) => Numbers {
+        Ok(drift) => Numbers {
             refusal: 0,
-            a: n as u64,
-            b: float::bits::to_bits(x),
+            a: u64::from(drift.count),
+            b: float::bits::to_bits(drift.tracking_error_pct),
         },
-        Drift::Oversize => answers::OVERSIZE,
-        Drift::Broken => answers::BROKEN,
-        Drift::BadWeight => answers::BAD_WEIGHT,
-        Drift::OutOfRange => answers::OUT_OF_RANGE,
-        Drift::NoRoom => answers::NO_ROOM,
+        Err(refusal) => refusal.into(),
     }
 }
 
-pub fn held_numbers(h: Held) -> Numbers
+// Two arms, as each answer's numbers: `answers::Numbers` says why.
+pub fn held_numbers(h: Result<i64, Refusal>) -> Numbers
     ensures { result ≡ numbers (held_numbers h) }
 {
     match h {
-        Held::Value(v) => Numbers {
+        Ok(v) => Numbers {
             refusal: 0,
-            a: wire::unsigned(v),
+            a: v.cast_unsigned(),
             b: 0,
         },
-        Held::Oversize => answers::OVERSIZE,
-        Held::Broken => answers::BROKEN,
-        Held::OutOfRange => answers::OUT_OF_RANGE,
+        Err(refusal) => refusal.into(),
     }
 }

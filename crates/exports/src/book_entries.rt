@@ -1,27 +1,27 @@
 // The entries of the crates `book`, `sheet` and `audit`. Each returns the refusal's number, 0 where there is none. An answer is two u64 in the first
 // sixteen bytes of `answer`, little-endian; all other bytes are zero.
 ghost use Rattle.std.specs.Prelude.{◌≡◌, length};
-ghost use Rattle.wire.specs.Layout.{layout_number};
 ghost use Rattle.book.specs.Layout.{book_layout};
 ghost use Rattle.sheet.specs.Sheet.{sheet_layout};
 ghost use Rattle.audit.specs.Verdict.{book_verdict, verdict_numbers};
 ghost use Rattle.sequence.specs.Sequence.{book_highest, highest_numbers, book_window, window_numbers};
 ghost use Rattle.answers.specs.Answer.{answer_number, answer_bytes};
+ghost use Rattle.wire.specs.Layout.{refused};
 
 // Entry. Refusals 1 and 2 of a book.
 #[unsafe(no_mangle)]
 pub extern "C" fn desk_check_book(book: &[u8]) -> u32
-    ensures { result ≡ layout_number (book_layout book.now) }
+    ensures { result ≡ refused (book_layout book.now) }
 {
-    answers::layout_number(book::layout::check(book))
+    answers::refused(book::layout::check(book))
 }
 
 // Entry. Refusals 1 and 2 of a sheet.
 #[unsafe(no_mangle)]
 pub extern "C" fn desk_check_sheet(sheet: &[u8]) -> u32
-    ensures { result ≡ layout_number (sheet_layout sheet.now) }
+    ensures { result ≡ refused (sheet_layout sheet.now) }
 {
-    answers::layout_number(sheet::check(sheet))
+    answers::refused(sheet::check(sheet))
 }
 
 // Entry. The verdict on a book's checkpoints: the event, counted from 1, for 4 and 5, and the checkpoint's number for 6 and 7.

@@ -10,25 +10,26 @@ ghost use Rattle.float.specs.Root.{sqrt};
 use crate::bits::{from_bits, to_bits};
 use crate::parts::parts_of;
 
-// The digits of a root so far, and what is left of the number above their square.
+// The digits of a root so far, and what is left of the number above their square: less than one more in the last digit would take.
 #[derive(Clone, Copy)]
 struct Digits {
     root: u64,
     left: u64,
+    ghost whole: { left ≤ 2 * root },
 }
 
 // One more digit of a root, of a number that is four times as large and pair more.
-fn next_digit(root: u64, left: u64, pair: u64) -> Digits
-    requires fact_1 { root < 2 ^ 53 }
-    requires fact_2 { left ≤ 2 * root }
-    requires fact_3 { pair < 4 }
-    ensures { (result.root * result.root + result.left ≡ 4 * (root * root + left) + pair) × (result.left ≤ 2 * result.root) × (result.root ≤ 2 * root + 1) }
+fn next_digit(first: Digits, pair: u64) -> Digits
+    requires room { first.root < 2 ^ 53 }
+    requires digit { pair < 4 }
+    ensures number { result.root * result.root + result.left ≡ 4 * (first.root * first.root + first.left) + pair }
+    ensures most { result.root ≤ 2 * first.root + 1 }
 {
-    let left = 4 * left + pair;
-    let trial = 4 * root + 1;
+    let left = 4 * first.left + pair;
+    let trial = 4 * first.root + 1;
     let digit = (trial <= left) as u64;
     Digits {
-        root: 2 * root + digit,
+        root: 2 * first.root + digit,
         left: left - digit * trial,
     }
 }
@@ -36,36 +37,33 @@ fn next_digit(root: u64, left: u64, pair: u64) -> Digits
 // The whole part of the square root of w, and what is left.
 fn first_digits(w: u64) -> Digits
     requires { w < 2 ^ 28 }
-    ensures { (result.root * result.root + result.left ≡ w) × (result.left ≤ 2 * result.root) × (result.root < 2 ^ 14) }
+    ensures number { result.root * result.root + result.left ≡ w }
+    ensures short { result.root < 2 ^ 14 }
 {
-    let mut root = 0u64;
-    let mut left = 0u64;
+    let mut digits = Digits { root: 0, left: 0 };
     let mut rest = w;
-    let mut i = 0u64;
-    while i < 14 {
-        let next = next_digit(root, left, rest / 0x400_0000);
-        root = next.root;
-        left = next.left;
+    for _i in 0..14u64 {
+        digits = next_digit(digits, rest / 0x400_0000);
         rest = rest % 0x400_0000 * 4;
-        i += 1;
     }
-    Digits { root, left }
+    digits
 }
 
 // One more digit of a root in base b, of a number that is b * b times as large and hi * b + lo more. A division by twice the root gives the digit, or one too many.
-fn wide_digit(root: u64, left: u64, b: u64, hi: u64, lo: u64) -> Digits
-    requires root_bound_1 { root < 2 ^ 27 }
-    requires root_bound_2 { left ≤ 2 * root }
-    requires b_bound_1 { b ≤ 2 ^ 26 }
-    requires b_bound_2 { b ≤ 2 * root }
-    requires b_bound_3 { hi < b }
-    requires b_bound_4 { lo < b }
-    ensures { (result.root * result.root + result.left ≡ (root * root + left) * (b * b) + (hi * b + lo)) × (result.left ≤ 2 * result.root) × (root * b ≤ result.root) × (result.root < root * b + b) }
+fn wide_digit(first: Digits, b: u64, hi: u64, lo: u64) -> Digits
+    requires short { first.root < 2 ^ 27 }
+    requires base { b ≤ 2 ^ 26 }
+    requires base_below { b ≤ 2 * first.root }
+    requires high { hi < b }
+    requires low { lo < b }
+    ensures number { result.root * result.root + result.left ≡ (first.root * first.root + first.left) * (b * b) + (hi * b + lo) }
+    ensures least { first.root * b ≤ result.root }
+    ensures most { result.root < first.root * b + b }
 {
-    let number = left * b + hi;
-    let digit = number / (2 * root);
-    let above = number % (2 * root) * b + lo;
-    let next = root * b + digit;
+    let number = first.left * b + hi;
+    let digit = number / (2 * first.root);
+    let above = number % (2 * first.root) * b + lo;
+    let next = first.root * b + digit;
     let square = digit * digit;
     if square <= above {
         return Digits {
@@ -81,34 +79,29 @@ fn wide_digit(root: u64, left: u64, b: u64, hi: u64, lo: u64) -> Digits
 
 // The whole part of the square root of w * 2^52, and what is left.
 fn digits_of(w: u64) -> Digits
-    requires fact_1 { 2 ^ 52 ≤ w }
-    requires fact_2 { w < 2 ^ 54 }
-    ensures { (result.root * result.root + result.left ≡ w * 2 ^ 52) × (result.left ≤ 2 * result.root) × (result.root < 2 ^ 53) }
+    requires long { 2 ^ 52 ≤ w }
+    requires short { w < 2 ^ 54 }
+    ensures number { result.root * result.root + result.left ≡ w * 2 ^ 52 }
+    ensures most { result.root < 2 ^ 53 }
 {
     let first = first_digits(w / 0x400_0000);
-    let half = wide_digit(
-        first.root,
-        first.left,
-        0x2000,
-        w / 0x2000 % 0x2000,
-        w % 0x2000,
-    );
-    wide_digit(half.root, half.left, 0x400_0000, 0, 0)
+    let half = wide_digit(first, 0x2000, w / 0x2000 % 0x2000, w % 0x2000);
+    wide_digit(half, 0x400_0000, 0, 0)
 }
 
 // How far d is shifted to have 53 digits.
 fn shift_of(d: u64) -> u64
-    requires fact_1 { 0 < d }
-    requires fact_2 { d < 2 ^ 53 }
+    requires some { 0 < d }
+    requires short { d < 2 ^ 53 }
     ensures { (result ≤ 52) × (2 ^ 52 ≤ d * 2 ^ result) × (d * 2 ^ result < 2 ^ 53) }
 {
-    (u64::leading_zeros(d) as u64) - 11
+    u64::from(d.leading_zeros()) - 11
 }
 
 // The bits of the square root of the positive finite f64 that has the bits n.
 fn root_bits(n: u64) -> u64
-    requires fact_1 { 0 < n }
-    requires fact_2 { n < 0x7ff0_0000_0000_0000 }
+    requires some { 0 < n }
+    requires finite { n < 0x7ff0_0000_0000_0000 }
     ensures { from_bits binary64 result ≡ sqrt binary64 (from_bits binary64 n) }
 {
     let parts = parts_of(n);

@@ -1,4 +1,4 @@
-pub mod Totals
+pub mod Sums
 pub mod Valued
 pub mod Worths
 pub mod Refusals

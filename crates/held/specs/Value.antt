@@ -2,22 +2,13 @@
 -- Assumes nothing.
 use Rattle.std.specs.Prelude.{ℕ, List, [], ◌∷◌, map, cond, ◌&&◌, ℤ, pos, ◌+ℤ◌, ◌*ℤ◌}
 use Rattle.std.specs.Int.Signed.{lt_z}
-use Rattle.wire.specs.Layout.{both_of}
-use Rattle.wire.specs.declared.layout.Layout.{Layout}
-use Rattle.wire.specs.declared.layout.Layout.TheVariants as Lay
+use Rattle.wire.specs.Layout.{Layout, both_of}
 use Rattle.drift.specs.Rows.{held_in, prices_in, rows_layout}
 use Rattle.drift.specs.Symbols.{all_where}
 use Rattle.drift.specs.Entry.{Line, fits64}
 use Rattle.drift.specs.Report.{lines_of}
-use Rattle.held.specs.declared.Held.{Held}
-use Rattle.held.specs.declared.Held.TheVariants as H
-
--- an answer's number in document 01, 0 where it is no refusal
-abbrev pub held_number : Held → ℕ
-held_number (H.Value z) = 0
-held_number H.Oversize = 1
-held_number H.Broken = 2
-held_number H.OutOfRange = 12
+use Rattle.std.specs.Prelude.{Ok, Err, Result}
+use Rattle.wire.specs.declared.refusal.Refusal.{Refusal}
 
 -- what a line adds
 abbrev pub worth_of : ℤ → ℤ → ℤ
@@ -31,17 +22,16 @@ total [] = pos 0
 total (z ∷ zs) = z +ℤ total zs
 
 -- refusal 12: a product or the total outside i64; no running sum is tested
-unfoldable pub value_of : List ℤ → Held
+unfoldable pub value_of : List ℤ → Result ℤ Refusal
 unfolding all_where total
-value_of zs = cond (all_where fits64 zs && fits64 (total zs)) (H.Value (total zs)) H.OutOfRange
+value_of zs = cond (all_where fits64 zs && fits64 (total zs)) (Ok (total zs)) (Err Refusal.Overflow)
 
-abbrev pub after_sound : Layout → Held → Held
-after_sound Lay.Oversize r = H.Oversize
-after_sound Lay.Broken r = H.Broken
-after_sound Lay.Sound r = r
+abbrev pub after_sound : Layout → Result ℤ Refusal → Result ℤ Refusal
+after_sound (Err q) r = Err q
+after_sound (Ok u) r = r
 
 -- the lines of what is held: no target adds a symbol
-unfoldable pub held_of : List ℕ → List ℕ → Held
+unfoldable pub held_of : List ℕ → List ℕ → Result ℤ Refusal
 unfolding value_of lines_of rows_layout
 held_of positions prices =
     after_sound (both_of (rows_layout 32 positions) (rows_layout 24 prices)) (value_of (map worth (lines_of (held_in positions) [] (prices_in prices))))

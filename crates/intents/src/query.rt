@@ -5,9 +5,9 @@ ghost use Rattle.sheet.specs.Sheet.{sheet_orders};
 ghost use Rattle.intents.specs.Intents.{query, max_retries, reconcile_order_intent, chosen};
 ghost use Rattle.intents.specs.Turns.{queried_at, Turned};
 
-use crate::Chosen;
+use types::order::OrderId;
 
-// Whether a query was answered, and the place after the queries taken.
+// Whether a query was answered, and the place after the queries taken, which there is either way: an Option would lose it where none was answered.
 #[derive(Clone, Copy)]
 pub struct Asked {
     pub answered: bool,
@@ -26,27 +26,16 @@ pub enum Turn {
 fn ask(queries: &[u8], at: usize) -> Asked
     ensures { query max_retries (drop at queries.now) ≡ queried_at result queries.now }
 {
-    let mut i = at;
-    let mut left: u32 = 5;
-    while 0 < left {
-        if queries.len() <= i {
-            return Asked {
-                answered: false,
-                next: i,
-            };
-        }
-        if queries[i] == 0 {
-            return Asked {
-                answered: true,
-                next: i + 1,
-            };
-        }
-        i += 1;
-        left -= 1;
-    }
-    Asked {
-        answered: false,
-        next: i,
+    let asked = wire::part(queries, at, 5);
+    match asked.iter().position(|q| *q == 0) {
+        Some(i) => Asked {
+            answered: true,
+            next: at + i + 1,
+        },
+        None => Asked {
+            answered: false,
+            next: at + asked.len(),
+        },
     }
 }
 
@@ -64,18 +53,11 @@ fn reconcile_order_intent(failed: bool, queries: &[u8], at: usize) -> Asked
 }
 
 // The sheet's first order with quantity remaining.
-pub fn choose(sheet: &[u8]) -> Chosen
+pub fn choose(sheet: &[u8]) -> Option<OrderId>
     ensures { result ≡ chosen (sheet_orders sheet.now) }
 {
-    let n = sheet::order_count(sheet);
-    let mut i: u32 = 0;
-    while i < n {
-        if 0 < sheet::remaining_at(sheet, i) {
-            return Chosen::Is(sheet::order_id_at(sheet, i));
-        }
-        i += 1;
-    }
-    Chosen::Nothing
+    let i = (0..sheet::order_count(sheet)).find(|&i| 0 < sheet::remaining_at(sheet, i))?;
+    Some(sheet::order_id_at(sheet, i))
 }
 
 // What comes of the order at a place, where `place` is that of the next query.

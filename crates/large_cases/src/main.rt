@@ -8,45 +8,23 @@
 // first bytes.
 #![tactic(auto)]
 
-use intents::Reconciling;
-use join::Joining;
 use marks_answers::intents_answer;
-use reply::Replied;
 use std::io;
-use std::io::Read;
-
-fn refusal(j: Joining) -> u64 {
-    match j {
-        Joining::Done(_) => 0,
-        Joining::Oversize => 1,
-        Joining::Broken => 2,
-        Joining::TooMany => 13,
-        Joining::NoRoom => 3,
-    }
-}
-
-fn addendum_refusal(r: Reconciling) -> u64 {
-    match r {
-        Reconciling::Done(_) => 0,
-        Reconciling::Oversize => 1,
-        Reconciling::Broken => 2,
-        Reconciling::NoNumbers => 8,
-        Reconciling::NoRoom => 3,
-    }
-}
 
 // The join of two books.
+// Nothing is allocated: a fixed buffer, and what of it counts.
 fn tell_join(rt: &impl Print, case: &[u8], a: &[u8], b: &[u8]) -> io::Result<()> {
     let mut out = cases::zeros();
-    let room = (wire::u32_at(case, 72) as usize).min(out.len());
+    let room = out.len().min(wire::u32_at(case, 72) as usize);
     let k = wire::u64_at(case, 32);
-    cases::tell_number(rt, refusal(join::join(a, b, k, &mut out[..room])))
+    let joined = join::join(a, b, k, &mut out[..room]);
+    println!(rt; "{}", cases::refusal(joined))
 }
 
 // The desk's reply to a book and a sheet: its length and its first bytes.
 fn tell_reply(rt: &impl Print, book: &[u8], sheet: &[u8]) -> io::Result<()> {
-    let mut out = [0u8; 4096];
-    let Replied::Done(n) = reply::reply(book, sheet, &mut out) else {
+    let mut out = [0; 4096];
+    let Ok(n) = reply::reply(book, sheet, &mut out) else {
         return Ok(());
     };
     print!(rt; "{n} ")?;
@@ -54,48 +32,46 @@ fn tell_reply(rt: &impl Print, book: &[u8], sheet: &[u8]) -> io::Result<()> {
     println!(rt)
 }
 
+// Marks that begin and have a case's last number.
+fn marks(case: &[u8]) -> [u8; 176] {
+    let mut marks = [0; 176];
+    marks[0] = 1;
+    wire::copy(&mut marks, 8, wire::part(case, 80, 8));
+    marks
+}
+
 // Reconciling of orders with a sheet, every query answered.
-fn reconciled(case: &[u8], orders: &[u8], sheet: &[u8], marks: &[u8]) -> Reconciling {
+// Nothing is allocated: a fixed buffer, and what of it counts.
+fn tell_reconciled(rt: &impl Print, case: &[u8], orders: &[u8], sheet: &[u8]) -> io::Result<()> {
     let answered = cases::zeros();
     let queries = wire::part(&answered, 0, wire::u64_at(case, 88) as usize);
     let mut addendum = cases::zeros();
-    let room = (wire::u32_at(case, 72) as usize).min(addendum.len());
-    intents_answer::lent_reconciling(marks, orders, sheet, queries, 0, &mut addendum[..room])
+    let room = addendum.len().min(wire::u32_at(case, 72) as usize);
+    let reconciled = intents_answer::lent_reconciling(
+        &marks(case),
+        orders,
+        sheet,
+        queries,
+        0,
+        &mut addendum[..room],
+    );
+    println!(rt; "{}", cases::refusal(reconciled))
 }
 
-// The same with marks that begin, but for their number.
-fn tell_reconciled(rt: &impl Print, case: &[u8], orders: &[u8], sheet: &[u8]) -> io::Result<()> {
-    let mut marks = [0u8; 176];
-    marks[0] = 1;
-    wire::copy(&mut marks, 8, wire::part(case, 80, 8));
-    cases::tell_number(
-        rt,
-        addendum_refusal(reconciled(case, orders, sheet, &marks)),
-    )
-}
-
-fn tell_none(rt: &impl Print) -> io::Result<()> {
-    println!(rt; "a case of no kind")
-}
-
-fn tell(rt: &impl Print, case: &[u8], a: &[u8], b: &[u8]) -> io::Result<()> {
-    let kind = wire::u64_of(case);
-    match kind {
+// A case of a kind, on its two inputs. The number is looked at here alone, so it is matched as it stands in the file.
+fn tell_answer(rt: &impl Print, case: &[u8], a: &[u8], b: &[u8]) -> io::Result<()> {
+    match wire::u64_of(case) {
         1 => tell_join(rt, case, a, b),
         2 => tell_reply(rt, a, b),
         3 => tell_reconciled(rt, case, a, b),
-        _ => tell_none(rt),
+        _ => println!(rt; "a case of no kind"),
     }
 }
 
-// Writes a record of 64 bytes into each of `n` places from `at` on.
+// Writes a record of 64 bytes into each of `n` places from `at` on. `sheet_cases` has such a loop of symbols: one line each.
 fn put_records(d: &mut [u8], at: u32, n: u32, record: &[u8]) {
-    let mut i = at as usize;
-    let mut left = n;
-    while 0 < left {
-        wire::copy(d, i, record);
-        i += 64;
-        left -= 1;
+    for k in 0..n {
+        wire::copy(d, at as usize + 64 * k as usize, record);
     }
 }
 
@@ -115,13 +91,14 @@ fn put_first(d: &mut [u8], case: &[u8]) {
     wire::copy(d, 0, wire::part(case, 304, wire::u64_at(case, 64) as usize));
 }
 
-fn tell_case(rt: &impl Print, case: &[u8]) -> io::Result<()> {
+// Nothing is allocated: a fixed buffer, and what of it counts.
+fn tell(rt: &impl Print, case: &[u8; 568]) -> io::Result<()> {
     let mut a = cases::zeros();
     let mut b = cases::zeros();
     put_first(&mut a, case);
     wire::copy(&mut b, 0, wire::part(case, 160, 48));
     cases::tell_label(rt, wire::part(case, 96, wire::u64_at(case, 8) as usize))?;
-    tell(
+    tell_answer(
         rt,
         case,
         wire::part(&a, 0, wire::u64_at(case, 16) as usize),
@@ -129,22 +106,10 @@ fn tell_case(rt: &impl Print, case: &[u8]) -> io::Result<()> {
     )
 }
 
-// Reads a case and tells of it; false where none is left.
-fn read_case(rt: &impl Print, file: &mut impl Read) -> io::Result<bool> {
-    let mut case = [0u8; 568];
-    if cases::read_full(file, &mut case)? != 568 {
-        return Ok(false);
-    }
-    tell_case(rt, &case)?;
-    Ok(true)
-}
-
+// As in each program of cases: a function over a closure with `?` would be no shorter.
 fn main(rt: HostRuntime) -> io::Result<()> {
-    let mut file = cases::open(&rt)?;
-    for _ in 0..1000u32 {
-        if !read_case(&rt, &mut file)? {
-            break;
-        }
+    for case in cases::all(cases::open(&rt)?) {
+        tell(&rt, &case?)?;
     }
     Ok(())
 }

@@ -1,6 +1,7 @@
 // Lines of text in lent bytes: words, decimal numbers, and the names of checkpoints as document 01 prints them.
 //
-// `specs/Lines.antt` has the text of each. What does not fit in the lent bytes is dropped; a caller tests the room for the whole.
+// `specs/Lines.antt` has the text of each. What does not fit in the lent bytes is dropped; a caller tests the room for the whole. The text goes into lent bytes at
+// a place, so no `Display` is here: it would need a formatter over them, and says whether it wrote, not how much.
 #![tactic(auto)]
 
 ghost use Rattle.std.specs.Prelude.{◌≡◌, ◌+◌, ◌≤◌, ◌<◌, length, drop};
@@ -9,7 +10,8 @@ ghost use Rattle.lines.specs.Lines.{decimal, checkpoint_name, field, line};
 
 use checkpoint::Checkpoint;
 
-// Writes the decimal digits of a number at the end of 20 bytes, and returns the place of the first.
+// Writes the decimal digits of a number at the end of 20 bytes, and returns the place of the first. By hand, since nothing more is to be trusted: std prints
+// numbers to a `String` or a writer, and the kit's crate for digits would be one more library under the one for C.
 fn put_digits(d: &mut [u8], n: u64) -> usize
     requires { length d.old ≡ 20 }
     ensures { (result ≤ 20) × (drop result d.new ≡ decimal n) }
@@ -31,33 +33,40 @@ fn put_decimal(d: &mut [u8], at: usize, n: u64) -> usize
 {
     let mut digits = [0u8; 20];
     let first = put_digits(&mut digits, n);
-    wire::copy(d, at, wire::from(&digits, first));
-    20 - first
+    wire::put_text(d, at, &digits[first..])
+}
+
+// A checkpoint's name.
+#[tactic(auto, unfolding(crate::specs::Lines::checkpoint_name))]
+fn checkpoint_name(k: Checkpoint) -> &'static [u8]
+    ensures { result.now ≡ checkpoint_name k }
+{
+    match k {
+        Checkpoint::RunStarted => b"RunStarted",
+        Checkpoint::PositionsIntent => b"PositionsIntent",
+        Checkpoint::PositionsFetched => b"PositionsFetched",
+        Checkpoint::PositionsResult => b"PositionsResult",
+        Checkpoint::DiffComputed => b"DiffComputed",
+        Checkpoint::RiskCheckPassed => b"RiskCheckPassed",
+        Checkpoint::OrderIntent => b"OrderIntent",
+        Checkpoint::OrderSubmitted => b"OrderSubmitted",
+        Checkpoint::OrderFailed => b"OrderFailed",
+        Checkpoint::OrderFilled => b"OrderFilled",
+        Checkpoint::QuotesIntent => b"QuotesIntent",
+        Checkpoint::QuotesResult => b"QuotesResult",
+        Checkpoint::AccountSummaryIntent => b"AccountSummaryIntent",
+        Checkpoint::AccountSummaryResult => b"AccountSummaryResult",
+        Checkpoint::CancelIntent => b"CancelIntent",
+        Checkpoint::CancelResult => b"CancelResult",
+        Checkpoint::RunCompleted => b"RunCompleted",
+    }
 }
 
 // Writes a checkpoint's name from `at` on, and returns the name's length.
 pub fn put_checkpoint_name(d: &mut [u8], at: usize, k: Checkpoint) -> usize
     ensures { (result ≡ length (checkpoint_name k)) × (d.new ≡ sets d.old at (checkpoint_name k)) }
 {
-    match k {
-        Checkpoint::RunStarted => wire::put_text(d, at, b"RunStarted"),
-        Checkpoint::PositionsIntent => wire::put_text(d, at, b"PositionsIntent"),
-        Checkpoint::PositionsFetched => wire::put_text(d, at, b"PositionsFetched"),
-        Checkpoint::PositionsResult => wire::put_text(d, at, b"PositionsResult"),
-        Checkpoint::DiffComputed => wire::put_text(d, at, b"DiffComputed"),
-        Checkpoint::RiskCheckPassed => wire::put_text(d, at, b"RiskCheckPassed"),
-        Checkpoint::OrderIntent => wire::put_text(d, at, b"OrderIntent"),
-        Checkpoint::OrderSubmitted => wire::put_text(d, at, b"OrderSubmitted"),
-        Checkpoint::OrderFailed => wire::put_text(d, at, b"OrderFailed"),
-        Checkpoint::OrderFilled => wire::put_text(d, at, b"OrderFilled"),
-        Checkpoint::QuotesIntent => wire::put_text(d, at, b"QuotesIntent"),
-        Checkpoint::QuotesResult => wire::put_text(d, at, b"QuotesResult"),
-        Checkpoint::AccountSummaryIntent => wire::put_text(d, at, b"AccountSummaryIntent"),
-        Checkpoint::AccountSummaryResult => wire::put_text(d, at, b"AccountSummaryResult"),
-        Checkpoint::CancelIntent => wire::put_text(d, at, b"CancelIntent"),
-        Checkpoint::CancelResult => wire::put_text(d, at, b"CancelResult"),
-        Checkpoint::RunCompleted => wire::put_text(d, at, b"RunCompleted"),
-    }
+    wire::put_text(d, at, checkpoint_name(k))
 }
 
 // Writes a text and a number after it from `at` on, and returns the length of both.

@@ -8,63 +8,63 @@ ghost use Rattle.reply.specs.Reply.{replied_numbers};
 ghost use Rattle.answers.specs.Answer.{numbers, number_alone};
 
 use answers::Numbers;
-use audit::validate::Verdict;
-use reply::Replied;
-use sequence::{Highest, Window};
+use audit::validate::Fault;
+use wire::refusal::Refusal;
 
-pub fn verdict_numbers(v: Verdict) -> Numbers
+pub fn verdict_numbers(v: Result<(), Fault>) -> Numbers
     ensures { result ≡ numbers (verdict_numbers v) }
 {
     let n = audit::validate::verdict_numbers(v);
     Numbers {
         refusal: n.0,
-        a: n.1 as u64,
-        b: n.2 as u64,
+        a: u64::from(n.1),
+        b: u64::from(n.2),
     }
 }
 
-pub fn highest_numbers(h: Highest) -> Numbers
+// Two arms, as each answer's numbers: `answers::Numbers` says why.
+pub fn highest_numbers(h: Result<u64, Refusal>) -> Numbers
     ensures { result ≡ numbers (number_alone (highest_numbers h)) }
 {
     match h {
-        Highest::Is(n) => Numbers {
+        Ok(n) => Numbers {
             refusal: 0,
             a: n,
             b: 0,
         },
-        Highest::Oversize => answers::OVERSIZE,
-        Highest::Broken => answers::BROKEN,
+        Err(refusal) => refusal.into(),
     }
 }
 
-pub fn window_numbers(w: Window) -> Numbers
+// Two arms, as each answer's numbers: `answers::Numbers` says why.
+pub fn window_numbers(w: Result<Option<u64>, Refusal>) -> Numbers
     ensures { result ≡ numbers (window_numbers w) }
 {
     match w {
-        Window::Is(n) => Numbers {
+        Ok(Some(n)) => Numbers {
             refusal: 0,
             a: 1,
             b: n,
         },
-        Window::Never => Numbers {
+        Ok(None) => Numbers {
             refusal: 0,
             a: 0,
             b: 0,
         },
-        Window::Oversize => answers::OVERSIZE,
-        Window::Broken => answers::BROKEN,
+        Err(refusal) => refusal.into(),
     }
 }
 
-pub fn reply_numbers(r: Replied) -> Numbers
+// Two arms, as each answer's numbers: `answers::Numbers` says why.
+pub fn reply_numbers(r: Result<usize, Refusal>) -> Numbers
     ensures { result ≡ numbers (number_alone (replied_numbers r)) }
 {
     match r {
-        Replied::Done(n) => Numbers {
+        Ok(n) => Numbers {
             refusal: 0,
             a: n as u64,
             b: 0,
         },
-        Replied::NoRoom => answers::NO_ROOM,
+        Err(refusal) => refusal.into(),
     }
 }

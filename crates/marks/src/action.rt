@@ -5,37 +5,28 @@ ghost use Rattle.records.specs.Record.{order_of};
 ghost use Rattle.marks.specs.Action.{action_of, queried_action, lent_action};
 
 use crate::Marks;
-use wire::layout::Layout;
+use wire::refusal::Refusal;
 
-#[derive(Clone, Copy)]
+#[derive(Clone, Copy, PartialEq, Eq)]
 pub enum RecoveryAction {
     Restart,
     Resume,
     ManualReview,
 }
 
-// The action, or refusal 2.
-#[derive(Clone, Copy)]
-pub enum Action {
-    Is(RecoveryAction),
-    Broken,
-}
-
 impl Marks {
+    // Here and below the orders are the first `count` records: recovery fills a longer buffer, which C lends.
     // The last questions: a query that is open is safe to repeat, an order that is not filled is not.
     fn queried_action(self, orders: &[u8], count: u32) -> RecoveryAction
         ensures { result ≡ queried_action self (records order_of 64 count orders.now) }
     {
-        let positions = self.positions;
-        if positions.is_open() {
+        if self.positions.is_open() {
             return RecoveryAction::Restart;
         }
-        let quotes = self.quotes;
-        if quotes.is_open() {
+        if self.quotes.is_open() {
             return RecoveryAction::Restart;
         }
-        let account = self.account;
-        if account.is_open() {
+        if self.account.is_open() {
             return RecoveryAction::Restart;
         }
         if records::search::any_unfilled(orders, count) {
@@ -54,8 +45,7 @@ impl Marks {
         if self.cancelfailed {
             return RecoveryAction::ManualReview;
         }
-        let cancel = self.cancel;
-        if cancel.is_open() {
+        if self.cancel.is_open() {
             return RecoveryAction::ManualReview;
         }
         if count == 0 {
@@ -68,19 +58,13 @@ impl Marks {
     }
 
     // Entry. The action by the marks and a slice of orders. Refusal 2 where the slice is not made of order records, or of more than a u32 counts.
-    pub fn recovery_action(self, orders: &[u8]) -> Action
+    pub fn recovery_action(self, orders: &[u8]) -> Result<RecoveryAction, Refusal>
         ensures { result ≡ lent_action self orders.now }
     {
         if 0x40_0000_0000 <= orders.len() {
-            return Action::Broken;
+            return Err(Refusal::Broken);
         }
-        match records::order::check_orders(orders) {
-            Layout::Sound => {
-                let count = (orders.len() / 64) as u32;
-                Action::Is(self.determine_recovery_action(orders, count))
-            }
-            Layout::Oversize => Action::Broken,
-            Layout::Broken => Action::Broken,
-        }
+        records::order::check_orders(orders)?;
+        Ok(self.determine_recovery_action(orders, (orders.len() / 64) as u32))
     }
 }

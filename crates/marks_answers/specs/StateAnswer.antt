@@ -1,29 +1,25 @@
 -- The answers of state equality and of the comparison, with lent marks. Definitions only.
 use Rattle.std.specs.Prelude.{ℕ, List, replicate}
-use Rattle.wire.specs.Layout.{both_of}
+use Rattle.wire.specs.Layout.{refusal_number, both_of}
 use Rattle.marks_record.specs.MarksRecord.{truth_number, marks_of, marks_layout}
 use Rattle.book.specs.Layout.{book_layout}
 use Rattle.sheet.specs.Sheet.{sheet_layout}
-use Rattle.state.specs.State.{states_equal, equality_number}
-use Rattle.state.specs.declared.Equality.{Equality}
-use Rattle.state.specs.declared.Equality.TheVariants as E
-use Rattle.compare.specs.Compare.{comparison, comparison_number, report_out}
-use Rattle.compare.specs.declared.Comparison.{Comparison}
-use Rattle.compare.specs.declared.Comparison.TheVariants as C
+use Rattle.state.specs.State.{states_equal}
+use Rattle.compare.specs.declared.Compared.{Compared}
+use Rattle.compare.specs.Compare.{comparison, report_out}
 use Rattle.marks_answers.specs.LentMarks.{marks_first, marks_else}
+use Rattle.std.specs.Prelude.{Ok, Err, Result, Bool}
+use Rattle.wire.specs.declared.refusal.Refusal.{Refusal}
 
 -- ---- the refusal, and two numbers
-abbrev pub equality_numbers : Equality → ℕ × ℕ × ℕ
-equality_numbers (E.Is b) = (equality_number (E.Is b), truth_number b, 0)
-equality_numbers E.Oversize = (equality_number E.Oversize, 0, 0)
-equality_numbers E.Broken = (equality_number E.Broken, 0, 0)
+abbrev pub equality_numbers : Result Bool Refusal → ℕ × ℕ × ℕ
+equality_numbers (Ok b) = (0, truth_number b, 0)
+equality_numbers (Err q) = (refusal_number q, 0, 0)
 
 -- how many discrepancies, and whether that is critical
-abbrev pub comparison_numbers : Comparison → ℕ × ℕ × ℕ
-comparison_numbers (C.Done r) = (comparison_number (C.Done r), r.count, truth_number r.critical)
-comparison_numbers C.Oversize = (comparison_number C.Oversize, 0, 0)
-comparison_numbers C.Broken = (comparison_number C.Broken, 0, 0)
-comparison_numbers C.NoRoom = (comparison_number C.NoRoom, 0, 0)
+abbrev pub comparison_numbers : Result Compared Refusal → ℕ × ℕ × ℕ
+comparison_numbers (Ok r) = (0, r.count, truth_number r.critical)
+comparison_numbers (Err q) = (refusal_number q, 0, 0)
 
 -- ---- with lent marks
 abbrev pub lent_equality_numbers : List ℕ → List ℕ → List ℕ → List ℕ → List ℕ → List ℕ → List ℕ → List ℕ → ℕ × ℕ × ℕ

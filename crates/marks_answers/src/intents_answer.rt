@@ -1,12 +1,12 @@
 // The answers of `intents`, to lent marks.
 ghost use Rattle.std.specs.Prelude.{◌≡◌, length, replicate};
 ghost use Rattle.std.proofs.lemmas.List.Edits.{sets};
-ghost use Rattle.intents.specs.Intents.{reconciling_number};
+ghost use Rattle.wire.specs.Layout.{refused};
 ghost use Rattle.answers.specs.Answer.{room_number, unless_short};
-ghost use Rattle.marks_answers.specs.IntentsAnswer.{reconciled_bytes, reconciling_bytes, unmarked, lent_reconciling, lent_addendum_out};
+ghost use Rattle.marks_answers.specs.IntentsAnswer.{reconciled_bytes, reconciling_bytes, lent_reconciling, lent_addendum_out};
 
-use intents::{Reconciled, Reconciling};
-use wire::layout::Layout;
+use intents::Reconciled;
+use wire::refusal::Refusal;
 
 // The 24 bytes of a reconciling's answer.
 fn put_reconciled(d: &mut [u8], r: Reconciled)
@@ -17,41 +17,28 @@ fn put_reconciled(d: &mut [u8], r: Reconciled)
     wire::put_u64(d, 16, r.length as u64);
 }
 
-// Writes what a reconciling gave into an answer that is all zero, as far as it has room, and returns the refusal's number.
-fn put_reconciling(answer: &mut [u8], r: Reconciling) -> u32
+// Writes what a reconciling gave into an answer that is all zero, as far as it has room, and returns the refusal's number. So does `put_recovery` for 200 bytes:
+// one function for both would take the writer and what it promises as parameters.
+fn put_reconciling(answer: &mut [u8], r: Result<Reconciled, Refusal>) -> u32
     requires { answer.old ≡ replicate (length answer.old) 0 }
-    ensures { (result ≡ reconciling_number r) × (answer.new ≡ reconciling_bytes r (length answer.old)) }
+    ensures { (result ≡ refused r) × (answer.new ≡ reconciling_bytes r (length answer.old)) }
 {
     match r {
-        Reconciling::Done(x) => {
+        Ok(x) => {
             put_reconciled(answer, x);
             0
         }
-        Reconciling::Oversize => 1,
-        Reconciling::Broken => 2,
-        Reconciling::NoNumbers => 8,
-        Reconciling::NoRoom => 3,
+        Err(refusal) => refusal.into(),
     }
 }
 
 // Writes a reconciling's answer of 24 bytes and returns its number.
-pub fn give_reconciling(r: Reconciling, answer: &mut [u8]) -> u32
-    ensures { (result ≡ room_number 24 (reconciling_number r) (length answer.old)) × (answer.new ≡ unless_short 24 (length answer.old) (length answer.old) (reconciling_bytes r (length answer.old))) }
+pub fn give_reconciling(r: Result<Reconciled, Refusal>, answer: &mut [u8]) -> u32
+    ensures { (result ≡ room_number 24 (refused r) (length answer.old)) × (answer.new ≡ unless_short 24 (length answer.old) (length answer.old) (reconciling_bytes r (length answer.old))) }
 {
     wire::clear(answer);
     let number = put_reconciling(answer, r);
     answers::within(answer, 24, number)
-}
-
-// What is said where lent marks are no record.
-fn without_marks(sheet: Layout) -> Reconciling
-    ensures { result ≡ unmarked sheet }
-{
-    match sheet {
-        Layout::Sound => Reconciling::Broken,
-        Layout::Oversize => Reconciling::Oversize,
-        Layout::Broken => Reconciling::Broken,
-    }
 }
 
 // Reconciling with lent marks into an addendum.
@@ -62,12 +49,13 @@ pub fn lent_reconciling(
     queries: &[u8],
     time: i64,
     addendum: &mut [u8],
-) -> Reconciling
+) -> Result<Reconciled, Refusal>
     ensures { (result ≡ lent_reconciling marks.now orders.now sheet.now queries.now time (length addendum.old)) × (addendum.new ≡ lent_addendum_out marks.now orders.now sheet.now queries.now time (length addendum.old)) }
 {
     if !crate::marks_ok(marks) {
         wire::clear(addendum);
-        return without_marks(sheet::check(sheet));
+        sheet::check(sheet)?;
+        return Err(Refusal::Broken);
     }
     let m = marks_record::marks_of(marks);
     intents::reconcile_incomplete_intents(m, orders, sheet, queries, time, addendum)

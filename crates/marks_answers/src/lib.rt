@@ -4,7 +4,7 @@
 #![tactic(auto)]
 
 ghost use Rattle.std.specs.Prelude.{◌≡◌};
-ghost use Rattle.marks_record.specs.MarksRecord.{truth_number, marks_ok};
+ghost use Rattle.marks_record.specs.MarksRecord.{marks_ok};
 ghost use Rattle.answers.specs.Answer.{numbers};
 ghost use Rattle.marks_answers.specs.LentMarks.{marks_first};
 
@@ -12,31 +12,21 @@ pub mod intents_answer;
 pub mod state_answer;
 
 use answers::Numbers;
-use wire::layout::Layout;
-
-pub fn truth_number(b: bool) -> u64
-    ensures { result ≡ truth_number b }
-{
-    if b { 1 } else { 0 }
-}
+use wire::refusal::Refusal;
 
 // Whether lent bytes are a record of marks.
 pub fn marks_ok(marks: &[u8]) -> bool
     ensures { result ≡ marks_ok marks.now }
 {
-    match marks_record::check(marks) {
-        Layout::Sound => true,
-        Layout::Oversize => false,
-        Layout::Broken => false,
-    }
+    marks_record::check(marks).is_ok()
 }
 
 // The numbers where lent marks are no record: refusal 2, after 1 of what is lent beside them.
-pub fn broken_marks(beside: Layout) -> Numbers
-    ensures { result ≡ numbers (marks_first Layout.Broken beside (0, 0, 0)) }
+pub fn broken_marks(beside: Result<(), Refusal>) -> Numbers
+    ensures { result ≡ numbers (marks_first (Err Refusal.Broken) beside (0, 0, 0)) }
 {
     Numbers {
-        refusal: answers::layout_number(wire::layout::both(beside, Layout::Broken)),
+        refusal: answers::refused(wire::refusal::both(beside, Err(Refusal::Broken))),
         a: 0,
         b: 0,
     }

@@ -9,31 +9,30 @@ ghost use Rattle.marks_answers.specs.LentMarks.{marks_first};
 ghost use Rattle.marks_answers.specs.StateAnswer.{equality_numbers, comparison_numbers, lent_equality_numbers, lent_comparison_numbers, lent_report};
 
 use answers::Numbers;
-use compare::{Comparison, Unanswered};
-use state::Equality;
-use wire::layout::Layout;
+use compare::{Compared, Unanswered};
+use wire::refusal::Refusal;
 
-fn equality_numbers(e: Equality) -> Numbers
+// Two arms, as each answer's numbers: `answers::Numbers` says why.
+fn equality_numbers(e: Result<bool, Refusal>) -> Numbers
     ensures { result ≡ numbers (equality_numbers e) }
 {
     match e {
-        Equality::Is(b) => Numbers {
+        Ok(b) => Numbers {
             refusal: 0,
-            a: crate::truth_number(b),
+            a: u64::from(b),
             b: 0,
         },
-        Equality::Oversize => answers::OVERSIZE,
-        Equality::Broken => answers::BROKEN,
+        Err(refusal) => refusal.into(),
     }
 }
 
 // The numbers where the marks of two states are no records.
 fn broken_marks_of(book_a: &[u8], book_b: &[u8]) -> Numbers
-    ensures { result ≡ numbers (marks_first Layout.Broken (both_of (book_layout book_a.now) (book_layout book_b.now)) (0, 0, 0)) }
+    ensures { result ≡ numbers (marks_first (Err Refusal.Broken) (both_of (book_layout book_a.now) (book_layout book_b.now)) (0, 0, 0)) }
 {
     let a = book::layout::check(book_a);
     let b = book::layout::check(book_b);
-    crate::broken_marks(wire::layout::both(a, b))
+    crate::broken_marks(wire::refusal::both(a, b))
 }
 
 // Whether two states with lent marks are equal.
@@ -49,7 +48,7 @@ pub fn lent_equality(
 ) -> Numbers
     ensures { result ≡ numbers (lent_equality_numbers book_a.now marks_a.now orders_a.now positions_a.now book_b.now marks_b.now orders_b.now positions_b.now) }
 {
-    if !(crate::marks_ok(marks_a) & crate::marks_ok(marks_b)) {
+    if !(crate::marks_ok(marks_a) && crate::marks_ok(marks_b)) {
         return broken_marks_of(book_a, book_b);
     }
     let a = marks_record::marks_of(marks_a);
@@ -67,18 +66,17 @@ pub fn lent_equality(
     equality_numbers(e)
 }
 
-fn comparison_numbers(c: Comparison) -> Numbers
+// Two arms, as each answer's numbers: `answers::Numbers` says why.
+fn comparison_numbers(c: Result<Compared, Refusal>) -> Numbers
     ensures { result ≡ numbers (comparison_numbers c) }
 {
     match c {
-        Comparison::Done(r) => Numbers {
+        Ok(r) => Numbers {
             refusal: 0,
             a: r.count as u64,
-            b: crate::truth_number(r.critical),
+            b: u64::from(r.critical),
         },
-        Comparison::Oversize => answers::OVERSIZE,
-        Comparison::Broken => answers::BROKEN,
-        Comparison::NoRoom => answers::NO_ROOM,
+        Err(refusal) => refusal.into(),
     }
 }
 

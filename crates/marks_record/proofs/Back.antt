@@ -16,8 +16,6 @@ use mir.ValLaws.{to_z-of_z, of_z_fits}
 use Rattle.wire.specs.Le.{le, bytes_of}
 use Rattle.wire.specs.Table.{every}
 use Rattle.wire.proofs.Written.{le_bytes_of}
-use Rattle.book.specs.declared.event.SequenceNumber.{SequenceNumber}
-use Rattle.book.specs.declared.event.SequenceNumber.TheVariants as N
 use Rattle.checkpoint.specs.Checkpoint.{checkpoint_number, checkpoints}
 use Rattle.checkpoint.specs.declared.Checkpoint.{Checkpoint}
 use Rattle.checkpoint.specs.declared.Checkpoint.TheVariants.{RunStarted, PositionsIntent, PositionsFetched, PositionsResult, DiffComputed, RiskCheckPassed, OrderIntent, OrderSubmitted, OrderFailed, OrderFilled, QuotesIntent, QuotesResult, AccountSummaryIntent, AccountSummaryResult, CancelIntent, CancelResult, RunCompleted}
@@ -26,11 +24,12 @@ use Rattle.marks.specs.declared.Marks.{Marks}
 use Rattle.marks.specs.declared.Pair.{Pair}
 use Rattle.marks_record.specs.MarksRecord.{truth_number, number_bytes, flag_bytes, pair_bytes, marks_bytes, checkpoint_of, truth_of, number_of, pair_of, marks_of, truth_ok, number_ok, marks_ok}
 use Rattle.marks_record.proofs.Puts.{number_size, pair_size, marks_size}
+use Rattle.std.specs.Prelude.{Some, None, Option}
 
 -- ---- marks whose numbers are within their types
-pub data NumberFits : SequenceNumber → Type 0 where
-  is : {n : ℕ} → n < 2 ^ 64 → NumberFits (N.Is n)
-  nothing : NumberFits N.Nothing
+pub data NumberFits : Option ℕ → Type 0 where
+  is : {n : ℕ} → n < 2 ^ 64 → NumberFits (Some n)
+  nothing : NumberFits None
 
 pub record PairFits (p : Pair) : Type 0 where
   pub intended : NumberFits p.intended
@@ -89,15 +88,15 @@ unfolding bytes_of le
 truth_ok_lem true t = refl
 truth_ok_lem false t = refl
 
-number_back : (n : SequenceNumber) (t : List ℕ) → NumberFits n → number_of (number_bytes n ++ t) ≡ n
+number_back : (n : (Option ℕ)) (t : List ℕ) → NumberFits n → number_of (number_bytes n ++ t) ≡ n
 unfolding bytes_of le
-number_back (N.Is n) t (is f) = ap N.Is (le_bytes_of 8 n [] f)
-number_back N.Nothing t nothing = refl
+number_back (Some n) t (is f) = ap Some (le_bytes_of 8 n [] f)
+number_back None t nothing = refl
 
-number_ok_lem : (n : SequenceNumber) (t : List ℕ) → number_ok (number_bytes n ++ t) ≡ true
+number_ok_lem : (n : (Option ℕ)) (t : List ℕ) → number_ok (number_bytes n ++ t) ≡ true
 unfolding number_ok bytes_of le
-number_ok_lem (N.Is n) t = refl
-number_ok_lem N.Nothing t = refl
+number_ok_lem (Some n) t = refl
+number_ok_lem None t = refl
 
 pair_back : (p : Pair) (u t : List ℕ) → PairFits p → pair_of (flag_bytes p ++ u) (pair_bytes p ++ t) ≡ p
 unfolding bytes_of

@@ -8,12 +8,12 @@ use lib.IntN.{pos, negsuc}
 use lib.ListN.{take, drop}
 use Rattle.wire.specs.Le.{le, bytes_of}
 use Rattle.wire.specs.Table.{every, records}
-use Rattle.book.specs.declared.event.SequenceNumber.TheVariants as N
 use Rattle.checkpoint.specs.Checkpoint.{checkpoints}
 use Rattle.checkpoint.specs.declared.Checkpoint.TheVariants.{QuotesIntent}
 use Rattle.marks.specs.declared.Marks.{Marks}
 use Rattle.marks_record.specs.MarksRecord.{marks_bytes, marks_of, number_ok, marks_ok}
 use Rattle.marks_record.proofs.Back.{MarksFits, is, nothing, marks_back}
+use Rattle.std.specs.Prelude.{Some, None}
 
 -- quotes answered at 12 and asked for again at 13, the account asked for at 8 and answered at 9; a negative equity
 sample : Marks
@@ -24,10 +24,10 @@ sample =
       time = pos 5;
       equity = negsuc 1;
       completed = false;
-      positions = record { intent = true; result = true; intended = N.Is 2; resulted = N.Nothing };
-      quotes = record { intent = true; result = true; intended = N.Is 13; resulted = N.Is 12 };
-      account = record { intent = true; result = true; intended = N.Is 8; resulted = N.Is 9 };
-      cancel = record { intent = false; result = false; intended = N.Nothing; resulted = N.Nothing };
+      positions = record { intent = true; result = true; intended = Some 2; resulted = None };
+      quotes = record { intent = true; result = true; intended = Some 13; resulted = Some 12 };
+      account = record { intent = true; result = true; intended = Some 8; resulted = Some 9 };
+      cancel = record { intent = false; result = false; intended = None; resulted = None };
       cancelfailed = false;
     }
 

@@ -7,21 +7,26 @@ use lib.ListN.{length, length-append}
 use lib.Seq.{sets}
 use Rattle.wire.specs.Le.{bytes_of}
 use Rattle.wire.proofs.Written.{length_bytes_of}
-use Rattle.wire.proofs.Words.{sets_number}
+use Rattle.wire.proofs.Words.{sets_number, two_words}
 use Rattle.wire.proofs.Records.{sets_append}
-use Rattle.book.specs.declared.event.SequenceNumber.{SequenceNumber}
-use Rattle.book.specs.declared.event.SequenceNumber.TheVariants as N
 use Rattle.marks.specs.declared.Marks.{Marks}
 use Rattle.marks.specs.declared.Pair.{Pair}
 use Rattle.marks_record.specs.MarksRecord.{truth_number, number_bytes, head_bytes, flag_bytes, flags_bytes, pair_bytes, pairs_bytes, marks_bytes}
+use Rattle.std.specs.Prelude.{Some, None, Option, is_some, unwrap_or}
 
 -- a list after another of known length
 pub behind : (n : ℕ) (s t d : List ℕ) (at : ℕ) → length s ≡ n → sets (sets d at s) (at + n) t ≡ sets d at (s ++ t)
 behind n s t d at e = sym (sets_append d s t at ∙ ap (λ (k : ℕ). sets (sets d at s) (at + k) t) e)
 
-pub number_size : (n : SequenceNumber) → length (number_bytes n) ≡ 16
-number_size (N.Is x) = simp (length-append, length_bytes_of)
-number_size N.Nothing = simp (length-append, length_bytes_of)
+pub number_size : (n : (Option ℕ)) → length (number_bytes n) ≡ 16
+number_size (Some x) = simp (length-append, length_bytes_of)
+number_size None = simp (length-append, length_bytes_of)
+
+-- a last number's mark and the number
+pub number_written : (d : List ℕ) (at : ℕ) (n : Option ℕ) (k : ℕ) → k ≡ truth_number (is_some n)
+    → sets (sets d at (bytes_of 8 k)) (at + 8) (bytes_of 8 (unwrap_or n 0)) ≡ sets d at (number_bytes n)
+number_written d at (Some x) k e = rw e (two_words d at 1 x)
+number_written d at None k e = rw e (two_words d at 0 0)
 
 pub pair_written : (d : List ℕ) (at : ℕ) (p : Pair) → sets (sets d at (number_bytes p.intended)) (at + 16) (number_bytes p.resulted) ≡ sets d at (pair_bytes p)
 pair_written d at p = behind 16 (number_bytes p.intended) (number_bytes p.resulted) d at (number_size p.intended)

@@ -1,29 +1,27 @@
 -- Marks in a record of 176 bytes, as they cross the C boundary: the bytes of a value, the value of bytes, and the test that lent marks undergo.
 -- Assumes nothing.
 use Rattle.std.specs.Prelude.{ℕ, ◌-◌, List, ◌++◌, Bool, true, false, ◌&&◌, ◌||◌, eqb, leb, length, drop, get_or}
-use Rattle.std.specs.Int.{w64}
+use Rattle.std.specs.Int.{w64, from_bool}
 use Rattle.std.proofs.Common.{to_z, of_z}
 use Rattle.wire.specs.Le.{le, bytes_of}
 use Rattle.wire.specs.Table.{every}
 use Rattle.wire.specs.Layout.{sound_if}
-use Rattle.wire.specs.declared.layout.Layout.{Layout}
-use Rattle.book.specs.declared.event.SequenceNumber.{SequenceNumber}
-use Rattle.book.specs.declared.event.SequenceNumber.TheVariants as N
 use Rattle.checkpoint.specs.Checkpoint.{checkpoint_number, checkpoints}
 use Rattle.checkpoint.specs.declared.Checkpoint.{Checkpoint}
 use Rattle.checkpoint.specs.declared.Checkpoint.TheVariants.{RunStarted}
 use Rattle.marks.specs.declared.Marks.{Marks}
 use Rattle.marks.specs.declared.Pair.{Pair}
+use Rattle.std.specs.Prelude.{Some, None, Option}
+use Rattle.wire.specs.Layout.{Layout}
 
 -- ---- a truth is 0 or 1
 abbrev pub truth_number : Bool → ℕ
-truth_number true = 1
-truth_number false = 0
+truth_number b = from_bool b
 
 -- a last number: 1 and the number, or two zeros
-abbrev pub number_bytes : SequenceNumber → List ℕ
-number_bytes (N.Is n) = bytes_of 8 1 ++ bytes_of 8 n
-number_bytes N.Nothing = bytes_of 8 0 ++ bytes_of 8 0
+abbrev pub number_bytes : Option ℕ → List ℕ
+number_bytes (Some n) = bytes_of 8 1 ++ bytes_of 8 n
+number_bytes None = bytes_of 8 0 ++ bytes_of 8 0
 
 -- ---- the record: u64 checkpoint 1 to 17, u64 number, i64 time, i64 equity
 abbrev pub head_bytes : Marks → List ℕ
@@ -55,11 +53,11 @@ checkpoint_of n = get_or checkpoints (n - 1) RunStarted
 abbrev pub truth_of : ℕ → Bool
 truth_of n = eqb n 1
 
-abbrev pub number_if : Bool → ℕ → SequenceNumber
-number_if true n = N.Is n
-number_if false n = N.Nothing
+abbrev pub number_if : Bool → ℕ → Option ℕ
+number_if true n = Some n
+number_if false n = None
 
-abbrev pub number_of : List ℕ → SequenceNumber
+abbrev pub number_of : List ℕ → Option ℕ
 number_of s = number_if (truth_of (le 8 s)) (le 8 (drop 8 s))
 
 -- the pair whose two flags stand at the front of one list, and its two numbers at the front of another

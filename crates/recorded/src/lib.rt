@@ -1,11 +1,11 @@
-// What the program `replay` needs to compare answers with recorded ones: a case's sections, the tally, a state in one buffer, the entries over lent
-// room, and the cases of drift, of conversions and of lent states. crates/replay/FORMAT.md has the list's layout.
+// What the program `replay` needs to compare answers with recorded ones: the counts, a case with its sections, a state in one buffer, and the cases of
+// drift, of conversions and of lent states. crates/replay/FORMAT.md has the list's layout.
 #![tactic(auto)]
 
-pub mod body;
+mod body;
+pub mod case;
 pub mod conversions;
 pub mod drifts;
-pub mod lent;
 pub mod saved;
 pub mod states;
 pub mod tally;

@@ -1,64 +1,92 @@
 // A recovered state in one buffer of 4,096 bytes: at 0 the marks, at 176 two u64, how many bytes of orders and of positions there are, at 192 a u64, the
 // action, at 200 the orders, at 2,048 the positions.
+ghost use Rattle.std.specs.Prelude.{◌≡◌, replicate};
+
+use crate::case::Case;
 use answers::Numbers;
+use intents::Reconciled;
 use marks_answers::{intents_answer, state_answer};
+use wire::refusal::Refusal;
 
-pub fn marks(s: &[u8]) -> &[u8] {
-    wire::part(s, 0, 176)
+// One buffer, since the records of a case may overlap there, and what is saved last is what is read.
+#[derive(Drop)]
+pub struct State {
+    pub bytes: [u8; 4096],
 }
 
-pub fn orders(s: &[u8]) -> &[u8] {
-    wire::part(s, 200, wire::u64_at(s, 176) as usize)
-}
+impl State {
+    // No marks and no records.
+    pub fn new() -> State
+        ensures { result.bytes ≡ replicate 4096 0 }
+    {
+        State { bytes: [0; 4096] }
+    }
 
-pub fn positions(s: &[u8]) -> &[u8] {
-    wire::part(s, 2048, wire::u64_at(s, 184) as usize)
-}
+    // The state whose marks, orders and positions are three sections of a case from this one on.
+    pub fn lent<R: Print>(case: &Case<'_, R>, first: u8) -> State {
+        let n = u32::from(first);
+        let mut s = State::new();
+        wire::copy(&mut s.bytes, 0, case.section(n));
+        s.put_records(case.section(n + 1), case.section(n + 2));
+        s
+    }
 
-pub fn action(s: &[u8]) -> u64 {
-    wire::u64_at(s, 192)
-}
+    pub fn marks(&self) -> &[u8] {
+        wire::part(&self.bytes, 0, 176)
+    }
 
-pub fn put_records(s: &mut [u8], orders: &[u8], positions: &[u8]) {
-    wire::put_u64(s, 176, orders.len() as u64);
-    wire::put_u64(s, 184, positions.len() as u64);
-    wire::copy(s, 200, orders);
-    wire::copy(s, 2048, positions);
-}
+    pub fn orders(&self) -> &[u8] {
+        wire::part(&self.bytes, 200, wire::u64_at(&self.bytes, 176) as usize)
+    }
 
-// How many records an answer counts; none where they are more than any answer of the list has.
-pub fn few(count: u64) -> u16 {
-    if count < 65536 { count as u16 } else { 0 }
-}
+    pub fn positions(&self) -> &[u8] {
+        wire::part(&self.bytes, 2048, wire::u64_at(&self.bytes, 184) as usize)
+    }
 
-// ---- the entries that take a state
-pub fn compare(s: &[u8], sheet: &[u8], report: &mut [u8]) -> Numbers {
-    state_answer::lent_comparison(marks(s), orders(s), positions(s), sheet, report)
-}
+    pub fn action(&self) -> u64 {
+        wire::u64_at(&self.bytes, 192)
+    }
 
-// The refusal's number; the answer has how many entries, how many are unreached, and how many bytes.
-pub fn reconcile(
-    s: &[u8],
-    sheet: &[u8],
-    queries: &[u8],
-    time: i64,
-    addendum: &mut [u8],
-    answer: &mut [u8],
-) -> u32 {
-    let r = intents_answer::lent_reconciling(marks(s), orders(s), sheet, queries, time, addendum);
-    intents_answer::give_reconciling(r, answer)
-}
+    pub fn put_records(&mut self, orders: &[u8], positions: &[u8]) {
+        wire::put_u64(&mut self.bytes, 176, orders.len() as u64);
+        wire::put_u64(&mut self.bytes, 184, positions.len() as u64);
+        wire::copy(&mut self.bytes, 200, orders);
+        wire::copy(&mut self.bytes, 2048, positions);
+    }
 
-// Two states, each with its book.
-pub fn equal(book: &[u8], s: &[u8], other: &[u8], t: &[u8]) -> Numbers {
-    state_answer::lent_equality(
-        book,
-        marks(s),
-        orders(s),
-        positions(s),
-        other,
-        marks(t),
-        orders(t),
-        positions(t),
-    )
+    // ---- the entries that take a state
+    pub fn compare(&self, sheet: &[u8], report: &mut [u8]) -> Numbers {
+        state_answer::lent_comparison(self.marks(), self.orders(), self.positions(), sheet, report)
+    }
+
+    pub fn reconcile(
+        &self,
+        sheet: &[u8],
+        queries: &[u8],
+        time: i64,
+        addendum: &mut [u8],
+    ) -> Result<Reconciled, Refusal> {
+        intents_answer::lent_reconciling(
+            self.marks(),
+            self.orders(),
+            sheet,
+            queries,
+            time,
+            addendum,
+        )
+    }
+
+    // Two states, each with its book.
+    pub fn equal(&self, book: &[u8], other: &State, other_book: &[u8]) -> Numbers {
+        state_answer::lent_equality(
+            book,
+            self.marks(),
+            self.orders(),
+            self.positions(),
+            other_book,
+            other.marks(),
+            other.orders(),
+            other.positions(),
+        )
+    }
 }

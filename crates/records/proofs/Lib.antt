@@ -1,4 +1,6 @@
 pub mod Walk
+pub mod Chains
+pub mod Firsts
 pub mod WrittenWords
 pub mod Found
 pub mod FlagByte

@@ -14,19 +14,16 @@ fn put_whole_four(d: &mut [u8], at: usize, w0: u64, w1: u64, w2: u64, w3: u64)
     wire::put_whole_u64(d, at + 24, w3);
 }
 
-// Four numbers. One test serves them all where all their bytes are there.
+// Four numbers. One test serves them all where all their bytes are there; where not, each is written by the writer that tests, which is all that the two differ in.
 pub fn put_four(d: &mut [u8], at: usize, w0: u64, w1: u64, w2: u64, w3: u64)
     ensures { d.new ≡ sets d.old at (bytes_of 8 w0 ++ bytes_of 8 w1 ++ bytes_of 8 w2 ++ bytes_of 8 w3) }
 {
-    if d.len() <= at {
-        return;
-    }
-    if 32 <= d.len() - at {
+    if 32 <= d.len() && at <= d.len() - 32 {
         put_whole_four(d, at, w0, w1, w2, w3);
-        return;
+    } else if at < d.len() {
+        wire::put_u64(d, at, w0);
+        wire::put_u64(d, at + 8, w1);
+        wire::put_u64(d, at + 16, w2);
+        wire::put_u64(d, at + 24, w3);
     }
-    wire::put_u64(d, at, w0);
-    wire::put_u64(d, at + 8, w1);
-    wire::put_u64(d, at + 16, w2);
-    wire::put_u64(d, at + 24, w3);
 }

@@ -1,24 +1,21 @@
 -- Document 01's reference sequence, M1 to M12, as one list with one test. Each row asks the definitions that an entry's promise cites, on bytes or on
 -- f64s as a caller lends them.
 -- Assumes nothing.
+use Rattle.recovery.specs.declared.recover.Recovered.{Recovered}
+use Rattle.intents.specs.declared.Reconciled.{Reconciled}
+use Rattle.compare.specs.declared.Compared.{Compared}
+use Rattle.std.specs.Prelude.{Option}
 use Rattle.std.specs.Prelude.{ℕ, ◌*◌, ◌^◌, Bool, true, false, ◌&&◌, ℤ, pos, neg_ℤ, Float, set}
 use Prim.Native.String.{String}
 use mathlib.Core.List.{List, [], ◌∷◌, ◌++◌, map, flat_map}
-use Rattle.std.proofs.Math.Option.{Option, none, some}
 use Rattle.std.specs.Float.{binary64}
 use Rattle.std.specs.Float.Ieee.{round}
 use Rattle.std.specs.Int.Signed.{le_z}
 use Rattle.wire.specs.Le.{le, bytes_of}
 use Rattle.symbol.specs.Symbol.{symbol_of, wide_field_bytes}
-use Rattle.types.specs.Fixed.{to_fixed, to_cents, fixed_refusal, fixed_value}
-use Rattle.types.specs.declared.fixed.Fixed.{Fixed}
-use Rattle.cell.specs.declared.AsI64.{AsI64}
-use Rattle.cell.specs.declared.AsI64.TheVariants as I64
-use Rattle.book.specs.declared.event.SequenceNumber.{SequenceNumber}
-use Rattle.book.specs.declared.event.SequenceNumber.TheVariants as N
+use Rattle.types.specs.Fixed.{to_fixed, to_cents, fixed_value}
 use Rattle.checkpoint.specs.Checkpoint.{ascii}
-use Rattle.audit.specs.Verdict.{book_verdict, verdict_numbers}
-use Rattle.audit.specs.declared.validate.Verdict.{Verdict}
+use Rattle.audit.specs.Verdict.{Verdict, book_verdict, verdict_numbers}
 use Rattle.samples.specs.BookBytes.{EventParts, part, cells_with, numbered, numbered_with, intent, begun, book_bytes}
 use Rattle.samples.specs.SheetBytes.{listed, sheet_bytes}
 use Rattle.records.specs.Record.{orders_in, position_bytes}
@@ -27,14 +24,11 @@ use Rattle.marks.specs.Marks.{first_marks}
 use Rattle.marks.specs.declared.Marks.{Marks}
 use Rattle.effects.specs.Event.{Event, events_of}
 use Rattle.recovery.specs.Recover.{recovery, orders_out, recovery_number}
-use Rattle.recovery.specs.declared.recover.Recovery.{Recovery}
-use Rattle.recovery.specs.declared.recover.Recovery.TheVariants as R
-use Rattle.intents.specs.Intents.{reconciling, addendum_out, reconciling_number}
-use Rattle.intents.specs.declared.Reconciling.{Reconciling}
-use Rattle.intents.specs.declared.Reconciling.TheVariants as I
-use Rattle.compare.specs.Compare.{comparison, report_out, comparison_number}
-use Rattle.compare.specs.declared.Comparison.{Comparison}
-use Rattle.compare.specs.declared.Comparison.TheVariants as C
+use Rattle.intents.specs.Intents.{reconciling, addendum_out}
+use Rattle.compare.specs.Compare.{comparison, report_out}
+use Rattle.std.specs.Prelude.{Some, None, Ok, Err, Result}
+use Rattle.wire.specs.declared.refusal.Refusal.{Refusal}
+use Rattle.wire.specs.Layout.{refused}
 
 -- a row: its M number, what document 01 says, what the definitions give, and what is due
 pub record Row : Type 0 where
@@ -63,8 +57,8 @@ abbrev pub decimal : Bool → ℕ → ℕ → Float
 decimal s digits places = round binary64 s digits (10 ^ places)
 
 -- ---- a conversion: the refusal's number, and the value
-abbrev pub converted : Fixed → List ℤ
-converted f = pos (fixed_refusal f) ∷ fixed_value f ∷ []
+abbrev pub converted : Result ℤ Refusal → List ℤ
+converted f = pos (refused f) ∷ fixed_value f ∷ []
 
 -- ---- a verdict: refusal, event, checkpoint
 abbrev pub judged : Verdict → List ℤ
@@ -100,42 +94,37 @@ abbrev pub fill : ℕ → EventParts
 fill id = numbered_with "order_filled" 3 5 (part 1 id)
 
 -- ---- reconciling: the refusal's number, entry and unreached counts, then the number, the ibkr_id and the symbol of each entry
-abbrev pub number_in : SequenceNumber → ℤ
-number_in (N.Is n) = pos n
-number_in N.Nothing = neg_ℤ (pos 1)
+abbrev pub number_in : Option ℕ → ℤ
+number_in (Some n) = pos n
+number_in None = neg_ℤ (pos 1)
 
-abbrev pub value_in : AsI64 → ℤ
-value_in (I64.Is z) = z
-value_in I64.Nothing = neg_ℤ (pos 1)
+abbrev pub value_in : Option ℤ → ℤ
+value_in (Some z) = z
+value_in None = neg_ℤ (pos 1)
 
 abbrev pub text_in : Option (List ℕ) → List ℤ
-text_in (some s) = map pos s
-text_in none = []
+text_in (Some s) = map pos s
+text_in None = []
 
 abbrev pub entry_of : Event → List ℤ
 entry_of e = number_in e.number ∷ value_in e.id ∷ text_in e.symbol
 
-abbrev pub counts : Reconciling → List ℤ
-counts (I.Done r) = pos r.entries ∷ pos r.unreached ∷ []
-counts I.Oversize = []
-counts I.Broken = []
-counts I.NoNumbers = []
-counts I.NoRoom = []
+abbrev pub counts : Result Reconciled Refusal → List ℤ
+counts (Ok r) = pos r.entries ∷ pos r.unreached ∷ []
+counts (Err e) = []
 
 unfoldable pub reconciled : Marks → List ℕ → List ℕ → List ℕ → List ℤ
 reconciled m orders sheet queries =
-    (pos (reconciling_number (reconciling m orders sheet queries (pos 9) 1024)) ∷ counts (reconciling m orders sheet queries (pos 9) 1024))
+    (pos (refused (reconciling m orders sheet queries (pos 9) 1024)) ∷ counts (reconciling m orders sheet queries (pos 9) 1024))
     ++ flat_map entry_of (events_of (addendum_out m orders sheet queries (pos 9) 1024))
 
 -- a log whose last number is 6, with intents of AB and CD
 unfoldable pub two_intents : List ℕ
 two_intents = book_bytes (begun ++ (numbered "diff_computed" 4 ∷ intent 5 0 ∷ intent 6 2 ∷ [])) [] (ascii "ABCD")
 
-abbrev pub recovered_marks : Recovery → Marks
-recovered_marks (R.Done r) = r.marks
-recovered_marks R.Oversize = first_marks (pos 0)
-recovered_marks R.Broken = first_marks (pos 0)
-recovered_marks R.NoRoom = first_marks (pos 0)
+abbrev pub recovered_marks : Result Recovered Refusal → Marks
+recovered_marks (Ok r) = r.marks
+recovered_marks (Err e) = first_marks (pos 0)
 
 -- recovery of that log, then reconciling with the sheet's orders 77 (0 left) and 78 (5 left)
 unfoldable pub reconciled_by : List ℕ → List ℤ
@@ -143,15 +132,13 @@ reconciled_by queries =
     reconciled (recovered_marks (recovery two_intents (pos 0) 128 0)) (orders_out two_intents (pos 0) 128 0) (sheet_bytes 2 (listed 77 0 ++ listed 78 5) 0 []) queries
 
 -- ---- a comparison of recovered positions with a sheet of positions: the refusal's number, the count, and the kind of the first record written
-abbrev pub count_of : Comparison → ℕ
-count_of (C.Done r) = r.count
-count_of C.Oversize = 0
-count_of C.Broken = 0
-count_of C.NoRoom = 0
+abbrev pub count_of : Result Compared Refusal → ℕ
+count_of (Ok r) = r.count
+count_of (Err e) = 0
 
 unfoldable pub compared : List ℕ → List ℕ → List ℤ
 compared positions sheet =
-    pos (comparison_number (comparison (first_marks (pos 0)) [] positions sheet 48)) ∷ pos (count_of (comparison (first_marks (pos 0)) [] positions sheet 48))
+    pos (refused (comparison (first_marks (pos 0)) [] positions sheet 48)) ∷ pos (count_of (comparison (first_marks (pos 0)) [] positions sheet 48))
     ∷ pos (le 4 (report_out (first_marks (pos 0)) [] positions sheet 48))
     ∷ []
 

@@ -11,20 +11,10 @@ mod tell;
 mod turns;
 
 use std::io;
-use std::io::Read;
 
-fn turn(rt: &impl Print, kind: u64, e: &[u8]) -> io::Result<()> {
-    match kind {
-        8 => desk::sample(rt, e),
-        9 => turns::fill(rt, e),
-        10 => turns::restarted(rt, e),
-        11 => turns::symbols(rt, e),
-        _ => tell::one(rt, b"an example of no kind", kind),
-    }
-}
-
-fn by_kind(rt: &impl Print, kind: u64, e: &[u8]) -> io::Result<()> {
-    match kind {
+// An example of a kind. The number is looked at here alone, so it is matched as it stands in the file.
+fn tell_of(rt: &impl Print, e: &[u8; 1920]) -> io::Result<()> {
+    match wire::u64_of(e) {
         1 => refusals::verdict(rt, e),
         2 => refusals::recovered(rt, e),
         3 => refusals::reconciled(rt, e),
@@ -32,32 +22,17 @@ fn by_kind(rt: &impl Print, kind: u64, e: &[u8]) -> io::Result<()> {
         5 => refusals::weight(rt, e),
         6 => refusals::held(rt, e),
         7 => refusals::joined(rt, e),
-        _ => turn(rt, kind, e),
+        8 => desk::sample(rt, e),
+        9 => turns::fill(rt, e),
+        10 => turns::restarted(rt, e),
+        11 => turns::symbols(rt, e),
+        kind => tell::numbers(rt, b"an example of no kind", &[kind]),
     }
-}
-
-// Reads an example and tells of it; false where none is left.
-fn read_example(rt: &impl Print, file: &mut impl Read) -> io::Result<bool> {
-    let mut e = [0u8; 1920];
-    if cases::read_full(file, &mut e)? != 1920 {
-        return Ok(false);
-    }
-    by_kind(rt, wire::u64_of(&e), &e)?;
-    Ok(true)
-}
-
-fn read_examples(rt: &impl Print, file: &mut impl Read, most: u32) -> io::Result<()> {
-    let mut left = most;
-    while 0 < left {
-        if !read_example(rt, file)? {
-            return Ok(());
-        }
-        left -= 1;
-    }
-    Ok(())
 }
 
 fn main(rt: HostRuntime) -> io::Result<()> {
-    let mut file = cases::open_file(&rt, "examples.bin")?;
-    read_examples(&rt, &mut file, 1000)
+    for example in cases::all(cases::open_file(&rt, "examples.bin")?) {
+        tell_of(&rt, &example?)?;
+    }
+    Ok(())
 }

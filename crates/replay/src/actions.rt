@@ -1,16 +1,14 @@
 // Kind 4, section 12: the action of the first lent state.
-use recorded::{saved, states, tally};
+use recorded::case::Case;
+use recorded::saved::State;
+use recorded::states;
+use recorded::tally::Sort;
 use std::io;
 
-fn acted(rt: &impl Print, tally: &mut [u64], b: &[u8], s: &[u8]) -> io::Result<()> {
-    let n = recovery_answers::lent_action(saved::marks(s), saved::orders(s));
-    tally::two(rt, tally, tally::ACTIONS, b, 12, n)
-}
-
 // Section 12, and those after it.
-pub fn replay(rt: &impl Print, tally: &mut [u64], b: &[u8]) -> io::Result<()> {
-    let mut s = [0u8; 4096];
-    states::lend(b, 2, &mut s);
-    acted(rt, tally, b, &s)?;
-    states::replay(rt, tally, b)
+pub fn replay<R: Print>(case: &mut Case<'_, R>) -> io::Result<()> {
+    let s = State::lent(case, 2);
+    let n = recovery_answers::lent_action(s.marks(), s.orders());
+    case.numbers(Sort::Actions, 12, &[n.refusal.into(), n.a])?;
+    states::replay(case, &s)
 }

@@ -1,152 +1,89 @@
 // Kind 1, a log. Inputs: book 1, sheet 2, queries 3, window 4, numbers 5. The sections of answers up to 15; those after it are in `addenda`.
 use crate::{addenda, recover};
-use recorded::{body, lent, saved, tally};
+use recorded::case::{Case, records};
+use recorded::saved::State;
+use recorded::tally::Sort;
 use std::io;
 
 // Section 6.
-fn verdict(rt: &impl Print, tally: &mut [u64], b: &[u8]) -> io::Result<()> {
-    let v = audit::validate::validate_checkpoints_from_parsed(body::section(b, 1));
-    tally::three(
-        rt,
-        tally,
-        tally::VERDICTS,
-        b,
-        6,
-        log_answers::verdict_numbers(v),
-    )
+fn verdict<R: Print>(case: &mut Case<'_, R>) -> io::Result<()> {
+    let verdict = audit::validate::validate_checkpoints_from_parsed(case.section(1));
+    let n = log_answers::verdict_numbers(verdict);
+    case.numbers(Sort::Verdicts, 6, &[n.refusal.into(), n.a, n.b])
 }
 
 // Section 7.
-fn highest(rt: &impl Print, tally: &mut [u64], b: &[u8]) -> io::Result<()> {
-    let h = sequence::max_checkpoint_sequence(body::section(b, 1));
-    tally::two(
-        rt,
-        tally,
-        tally::HIGHEST,
-        b,
-        7,
-        log_answers::highest_numbers(h),
-    )
+fn highest<R: Print>(case: &mut Case<'_, R>) -> io::Result<()> {
+    let highest = sequence::max_checkpoint_sequence(case.section(1));
+    let n = log_answers::highest_numbers(highest);
+    case.numbers(Sort::Highest, 7, &[n.refusal.into(), n.a])
 }
 
 // Section 8.
-fn window(rt: &impl Print, tally: &mut [u64], b: &[u8]) -> io::Result<()> {
-    let w = sequence::check_window_already_complete(body::section(b, 1), body::section(b, 4));
-    tally::three(
-        rt,
-        tally,
-        tally::WINDOWS,
-        b,
-        8,
-        log_answers::window_numbers(w),
-    )
+fn window<R: Print>(case: &mut Case<'_, R>) -> io::Result<()> {
+    let complete = sequence::check_window_already_complete(case.section(1), case.section(4));
+    let n = log_answers::window_numbers(complete);
+    case.numbers(Sort::Windows, 8, &[n.refusal.into(), n.a, n.b])
 }
 
 // Section 9.
-fn desk(rt: &impl Print, tally: &mut [u64], b: &[u8]) -> io::Result<()> {
-    let mut out = [0u8; 4096];
-    let r = reply::reply(body::section(b, 1), body::section(b, 2), &mut out);
-    let n = log_answers::reply_numbers(r);
-    tally::bytes(
-        rt,
-        tally,
-        tally::REPLIES,
-        b,
-        9,
-        wire::part(&out, 0, n.a as usize),
-    )
+fn desk<R: Print>(case: &mut Case<'_, R>) -> io::Result<()> {
+    let mut out = [0; 4096];
+    let length = reply::reply(case.section(1), case.section(2), &mut out).unwrap_or(0);
+    case.bytes(Sort::Replies, 9, wire::part(&out, 0, length))
 }
 
 // The time of recovery.
-pub fn now(b: &[u8]) -> i64 {
-    wire::signed(body::number_in(b, 5, 0))
+pub fn now<R: Print>(case: &Case<'_, R>) -> i64 {
+    case.number_in(5, 0).cast_signed()
 }
 
 // The refusal of a recovery with lent room.
-fn lent_recovery(b: &[u8]) -> u32 {
-    let n = body::number_in(b, 5, 3);
-    let m = body::number_in(b, 5, 4);
-    recover::recover_in(body::section(b, 1), now(b), n, m)
-}
-
-// Section 10.
-fn recovery_numbers(
-    rt: &impl Print,
-    tally: &mut [u64],
-    b: &[u8],
-    refusal: u32,
-    action: u64,
-) -> io::Result<()> {
-    let lent = lent_recovery(b) as u64;
-    let agrees = body::is_three(body::section(b, 10), refusal as u64, lent, action);
-    tally::compared(rt, tally, tally::RECOVERIES, 10, agrees)
+fn lent_recovery<R: Print>(case: &Case<'_, R>) -> u32 {
+    let (orders, positions) = (case.number_in(5, 3), case.number_in(5, 4));
+    recover::recover_in(case.section(1), now(case), orders, positions)
 }
 
 // The refusal of a comparison with lent room.
-fn lent_comparison(b: &[u8], s: &[u8]) -> u32 {
-    let mut out = [0u8; 4096];
-    let bytes = body::number_in(b, 5, 5);
-    let n = lent::compare_in(s, body::section(b, 2), &mut out, bytes);
-    n.refusal
-}
-
-// Section 14.
-fn comparison_numbers(
-    rt: &impl Print,
-    tally: &mut [u64],
-    b: &[u8],
-    s: &[u8],
-    refusal: u32,
-) -> io::Result<()> {
-    let lent = lent_comparison(b, s) as u64;
-    let agrees = body::is_two(body::section(b, 14), refusal as u64, lent);
-    tally::compared(rt, tally, tally::COMPARISONS, 14, agrees)
+fn lent_comparison<R: Print>(case: &Case<'_, R>, s: &State) -> u32 {
+    let mut out = [0; 4096];
+    let n = out.len().min(case.number_in(5, 5) as usize);
+    s.compare(case.section(2), &mut out[..n]).refusal
 }
 
 // Sections 14 and 15.
-fn compared(rt: &impl Print, tally: &mut [u64], b: &[u8], s: &[u8]) -> io::Result<()> {
-    let mut out = [0u8; 4096];
-    let n = saved::compare(s, body::section(b, 2), &mut out);
-    comparison_numbers(rt, tally, b, s, n.refusal)?;
-    tally::bytes(
-        rt,
-        tally,
-        tally::REPORTS,
-        b,
-        15,
-        wire::part(&out, 0, 48 * (saved::few(n.a) as usize)),
-    )
-}
-
-// Sections 11 to 13.
-fn state_bytes(rt: &impl Print, tally: &mut [u64], b: &[u8], s: &[u8]) -> io::Result<()> {
-    tally::bytes(rt, tally, tally::MARKS, b, 11, saved::marks(s))?;
-    tally::bytes(rt, tally, tally::ORDERS, b, 12, saved::orders(s))?;
-    tally::bytes(rt, tally, tally::POSITIONS, b, 13, saved::positions(s))
+fn compared<R: Print>(case: &mut Case<'_, R>, s: &State) -> io::Result<()> {
+    let mut out = [0; 4096];
+    let n = s.compare(case.section(2), &mut out);
+    let lent = lent_comparison(case, s).into();
+    case.numbers(Sort::Comparisons, 14, &[n.refusal.into(), lent])?;
+    case.bytes(Sort::Reports, 15, records(&out, n.a, 48))
 }
 
 // The sections on the state that was recovered: 11 to 21.
-fn state_sections(rt: &impl Print, tally: &mut [u64], b: &[u8], s: &[u8]) -> io::Result<()> {
-    state_bytes(rt, tally, b, s)?;
-    compared(rt, tally, b, s)?;
-    addenda::replay(rt, tally, b, s)
+fn state_sections<R: Print>(case: &mut Case<'_, R>, s: &State) -> io::Result<()> {
+    case.bytes(Sort::Marks, 11, s.marks())?;
+    case.bytes(Sort::Orders, 12, s.orders())?;
+    case.bytes(Sort::Positions, 13, s.positions())?;
+    compared(case, s)?;
+    addenda::replay(case, s)
 }
 
 // Sections 10 to 21; the last is 10 where recovery is refused.
-fn recovered(rt: &impl Print, tally: &mut [u64], b: &[u8]) -> io::Result<()> {
-    let mut s = [0u8; 4096];
-    let refusal = recover::recover(body::section(b, 1), now(b), &mut s);
-    recovery_numbers(rt, tally, b, refusal, saved::action(&s))?;
+fn recovered<R: Print>(case: &mut Case<'_, R>) -> io::Result<()> {
+    let (refusal, s) = recover::recover(case.section(1), now(case));
+    let lent = lent_recovery(case).into();
+    case.numbers(Sort::Recoveries, 10, &[refusal.into(), lent, s.action()])?;
     if refusal == 0 {
-        state_sections(rt, tally, b, &s)?;
+        state_sections(case, &s)?;
     }
     Ok(())
 }
 
-pub fn replay(rt: &impl Print, tally: &mut [u64], b: &[u8]) -> io::Result<()> {
-    verdict(rt, tally, b)?;
-    highest(rt, tally, b)?;
-    window(rt, tally, b)?;
-    desk(rt, tally, b)?;
-    recovered(rt, tally, b)
+pub fn replay<R: Print>(case: &mut Case<'_, R>) -> io::Result<()> {
+    verdict(case)?;
+    highest(case)?;
+    window(case)?;
+    desk(case)?;
+    recovered(case)
 }

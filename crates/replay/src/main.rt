@@ -10,94 +10,61 @@ mod joins;
 mod logs;
 mod recover;
 
-use recorded::{conversions, drifts, lent, tally};
+use recorded::case::Case;
+use recorded::tally::Tally;
+use recorded::{conversions, drifts};
 use std::io;
 use std::io::Read;
 
-// A case of a kind. One of no kind that is known differs in its section 0.
-fn by_kind(rt: &impl Print, tally: &mut [u64], kind: u32, b: &[u8]) -> io::Result<()> {
-    tally::add(tally, tally::CASES);
+// A case of a kind. One of no kind that is known differs in its section 0. The number is looked at here alone, so it is matched as it stands in the list.
+fn by_kind<R: Print>(kind: u32, case: &mut Case<'_, R>) -> io::Result<()> {
     match kind {
-        1 => logs::replay(rt, tally, b),
-        2 => drifts::replay(rt, tally, b),
-        3 => conversions::replay(rt, tally, b),
-        4 => actions::replay(rt, tally, b),
-        5 => joins::replay(rt, tally, b),
-        _ => tally::differs(rt, tally, 0),
+        1 => logs::replay(case),
+        2 => drifts::replay(case),
+        3 => conversions::replay(case),
+        4 => actions::replay(case),
+        5 => joins::replay(case),
+        _ => case.differs(0),
     }
 }
 
-// Reads a body of so many bytes and replays it; false where the list has it not whole, or it is above 65,536 bytes.
-fn read_body(
-    rt: &impl Print,
-    file: &mut impl Read,
-    tally: &mut [u64],
-    kind: u32,
-    len: u32,
-) -> io::Result<bool> {
-    let mut bytes = [0u8; 65536];
-    let n = lent::read_in(file, &mut bytes, len as u64)?;
-    if n != (len as usize) {
+// Reads a case and replays it; false where the list has it not whole, or its body is above 65,536 bytes.
+fn read_case<R: Print>(rt: &R, file: &mut impl Read, tally: &mut Tally) -> io::Result<bool> {
+    let Some(head) = cases::next::<8, _>(file)? else {
+        return Ok(false);
+    };
+    let len = wire::u32_at(&head, 4) as usize;
+    let mut bytes = [0; 65536];
+    let n = bytes.len().min(len);
+    let body = &mut bytes[..n];
+    if cases::read_full(file, body)? != len {
         return Ok(false);
     }
-    by_kind(rt, tally, kind, wire::part(&bytes, 0, n))?;
+    by_kind(wire::u32_of(&head), &mut Case::new(rt, tally, body))?;
     Ok(true)
-}
-
-// Reads a case and replays it.
-fn read_case(rt: &impl Print, file: &mut impl Read, tally: &mut [u64]) -> io::Result<bool> {
-    let mut head = [0u8; 8];
-    if cases::read_full(file, &mut head)? != 8 {
-        return Ok(false);
-    }
-    let kind = wire::u32_of(&head);
-    let len = wire::u32_at(&head, 4);
-    read_body(rt, file, tally, kind, len)
-}
-
-// Replays so many cases; false where the list ends before.
-fn read_cases(
-    rt: &impl Print,
-    file: &mut impl Read,
-    tally: &mut [u64],
-    count: u32,
-) -> io::Result<bool> {
-    let mut left = count;
-    while 0 < left {
-        if !read_case(rt, file, tally)? {
-            return Ok(false);
-        }
-        left -= 1;
-    }
-    Ok(true)
-}
-
-// Whether nothing is left to read.
-fn at_end(file: &mut impl Read) -> io::Result<bool> {
-    let mut more = [0u8; 1];
-    Ok(cases::read_full(file, &mut more)? == 0)
 }
 
 // Replays a whole list of format 1; false where it is none, breaks off, or has bytes after its last case.
-fn read_list(rt: &impl Print, file: &mut impl Read, tally: &mut [u64]) -> io::Result<bool> {
-    let mut head = [0u8; 8];
-    if cases::read_full(file, &mut head)? != 8 {
+fn read_list(rt: &impl Print, file: &mut impl Read, tally: &mut Tally) -> io::Result<bool> {
+    let Some(head) = cases::next::<8, _>(file)? else {
         return Ok(false);
-    }
+    };
     if wire::u32_of(&head) != 1 {
         return Ok(false);
     }
-    if !read_cases(rt, file, tally, wire::u32_at(&head, 4))? {
-        return Ok(false);
+    for _ in 0..wire::u32_at(&head, 4) {
+        if !read_case(rt, file, tally)? {
+            return Ok(false);
+        }
     }
-    at_end(file)
+    Ok(cases::next::<1, _>(file)?.is_none())
 }
 
 fn main(rt: HostRuntime) -> io::Result<()> {
     let mut file = cases::open(&rt)?;
-    let mut tally = [0u64; 23];
+    let mut tally = Tally::new();
     if !read_list(&rt, &mut file, &mut tally)? {
         println!(rt; "no whole list")?;
     }
-    tally::print(&rt, &tally)
+    tally.print(&rt)
 }

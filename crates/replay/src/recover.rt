@@ -1,25 +1,30 @@
 // Recovery into a state of one buffer, and into lent room.
-use recorded::{lent, saved};
+use recorded::case::records;
+use recorded::saved::State;
 
-// Recovery with ample room: the refusal's number. The state is all zero where there is one.
-pub fn recover(book: &[u8], time: i64, s: &mut [u8]) -> u32 {
-    let mut orders = [0u8; 4096];
-    let mut positions = [0u8; 4096];
+// Recovery with ample room: the refusal's number and the state, which is all zero where there is a refusal.
+pub fn recover(book: &[u8], time: i64) -> (u32, State) {
+    let mut orders = [0; 4096];
+    let mut positions = [0; 4096];
+    let mut s = State::new();
     let r = recovery::recover::reconstruct_state(book, time, &mut orders, &mut positions);
-    let refusal = recovery_answers::give_recovery(r, s);
-    let n = 64 * (saved::few(wire::u64_at(s, 176)) as usize);
-    let m = 32 * (saved::few(wire::u64_at(s, 184)) as usize);
-    saved::put_records(s, wire::part(&orders, 0, n), wire::part(&positions, 0, m));
-    refusal
+    let refusal = recovery_answers::give_recovery(r, &mut s.bytes);
+    let orders = records(&orders, wire::u64_at(&s.bytes, 176), 64);
+    let positions = records(&positions, wire::u64_at(&s.bytes, 184), 32);
+    s.put_records(orders, positions);
+    (refusal, s)
 }
 
 // The refusal of a recovery into so many bytes of orders and of positions.
 pub fn recover_in(book: &[u8], time: i64, order_bytes: u64, position_bytes: u64) -> u32 {
-    let mut orders = [0u8; 4096];
-    let mut positions = [0u8; 4096];
-    let n = lent::room(order_bytes).min(orders.len());
-    let m = lent::room(position_bytes).min(positions.len());
-    let r = recovery::recover::reconstruct_state(book, time, &mut orders[..n], &mut positions[..m]);
-    let mut answer = [0u8; 200];
-    recovery_answers::give_recovery(r, &mut answer)
+    let mut orders = [0; 4096];
+    let mut positions = [0; 4096];
+    let n = orders.len().min(order_bytes as usize);
+    let m = positions.len().min(position_bytes as usize);
+    cases::refusal(recovery::recover::reconstruct_state(
+        book,
+        time,
+        &mut orders[..n],
+        &mut positions[..m],
+    ))
 }

@@ -11,19 +11,18 @@ use lib.Dec.{leb}
 use lib.ListN.{length, length-map}
 use Rattle.wire.specs.Le.{le}
 use Rattle.wire.specs.Table.{records}
-use Rattle.wire.specs.declared.layout.Layout.{Layout}
-use Rattle.wire.specs.declared.layout.Layout.TheVariants as L
-use Rattle.audit.specs.declared.validate.Verdict.{Verdict}
+use Rattle.audit.specs.Verdict.{Verdict}
 use Rattle.recovery.specs.declared.recover.Recovered.{Recovered}
 use Rattle.compare.specs.Compare.{lent_report, lent_layout, done_if, refused_or, comparison, report_out}
 use Rattle.compare.specs.declared.discrepancy.Discrepancy.{Discrepancy}
 use Rattle.compare.specs.declared.Compared.{Compared}
-use Rattle.compare.specs.declared.Comparison.TheVariants as C
 use Rattle.compare.proofs.Reread.{kinds_held}
 use Rattle.reply.specs.Result.{DeskResult, Refused, Told, by_comparison, compared_result}
+use Rattle.std.specs.Prelude.{Ok, Err}
+use Rattle.wire.specs.Layout.{Layout}
 
 pub not_told : {A : Type 0} {n : ℕ} {v : Verdict} {r : Recovered} {ks : List ℕ} → Refused n ≡ Told v r ks → A
-not_told h = let z : ◌≡◌ {A = ℕ} 0 1 = cc in absurd (omega arith)
+not_told h = absurd (grind arith)
 
 -- the kinds of a result
 abbrev pub kinds_of : DeskResult → List ℕ
@@ -31,11 +30,10 @@ kinds_of (Refused n) = []
 kinds_of (Told v r ks) = ks
 
 -- ---- a comparison that is done counts the report's discrepancies, whose kinds are read back
-counted : (l : Layout) (b : Bool) (xs : List Discrepancy) (x : Compared) → refused_or l (done_if b xs) ≡ C.Done x → x.count ≡ length xs
-counted L.Sound true xs x e = cc
-counted L.Sound false xs x e = cc
-counted L.Oversize b xs x e = cc
-counted L.Broken b xs x e = cc
+counted : (l : Layout) (b : Bool) (xs : List Discrepancy) (x : Compared) → refused_or l (done_if b xs) ≡ Ok x → x.count ≡ length xs
+counted (Ok tt) true xs x e = cc
+counted (Ok tt) false xs x e = cc
+counted (Err _) b xs x e = cc
 
 module _ (v : Verdict) (r : Recovered) (orders positions sheet : List ℕ) where
   abbrev xs : List Discrepancy
@@ -44,7 +42,7 @@ module _ (v : Verdict) (r : Recovered) (orders positions sheet : List ℕ) where
   abbrev by : Layout → Bool → DeskResult
   by l b = by_comparison v r xs (refused_or l (done_if b xs))
 
-  pub told_back : (room : ℕ) (x : Compared) (out : List ℕ) → comparison r.marks orders positions sheet room ≡ C.Done x
+  pub told_back : (room : ℕ) (x : Compared) (out : List ℕ) → comparison r.marks orders positions sheet room ≡ Ok x
       → out ≡ report_out r.marks orders positions sheet room
       → Told v r (records (le 4) 48 x.count out) ≡ compared_result room v r orders positions sheet
   unfolding compared_result comparison report_out
@@ -53,10 +51,9 @@ module _ (v : Verdict) (r : Recovered) (orders positions sheet : List ℕ) where
 
   -- ---- as many kinds as there is room for
   few : (room : ℕ) (l : Layout) (b : Bool) → leb (48 * length xs) room ≡ b → 48 * length (kinds_of (by l b)) ≤ room
-  few room L.Sound true e = rw length-map (leb-true (48 * length xs) room e)
-  few room L.Sound false e = omega arith
-  few room L.Oversize b e = omega arith
-  few room L.Broken b e = omega arith
+  few room (Ok tt) true e = rw length-map (leb-true (48 * length xs) room e)
+  few room (Ok tt) false e = omega arith
+  few room (Err _) b e = omega arith
 
   pub compared_few : (room : ℕ) → 48 * length (kinds_of (compared_result room v r orders positions sheet)) ≤ room
   unfolding compared_result comparison
@@ -65,10 +62,9 @@ module _ (v : Verdict) (r : Recovered) (orders positions sheet : List ℕ) where
   -- ---- more room
   module _ (w : Verdict) (q : Recovered) (ks : List ℕ) where
     same : (l : Layout) (a b : Bool) → (a ≡ true → b ≡ true) → by l a ≡ Told w q ks → by l b ≡ Told w q ks
-    same L.Sound true b f h = rw (f refl) h
-    same L.Sound false b f h = not_told h
-    same L.Oversize a b f h = h
-    same L.Broken a b f h = h
+    same (Ok tt) true b f h = rw (f refl) h
+    same (Ok tt) false b f h = not_told h
+    same (Err e) a b f h = h
 
     pub compared_longer : (room longer : ℕ) → room ≤ longer → compared_result room v r orders positions sheet ≡ Told w q ks
         → compared_result longer v r orders positions sheet ≡ Told w q ks

@@ -10,12 +10,10 @@ use lib.Dec.{lit<}
 use lib.IntN.{pos}
 use lib.ListN.{length, length-append}
 use Rattle.wire.specs.Table.{encoded}
-use Rattle.wire.specs.declared.layout.Layout.{Layout}
-use Rattle.wire.specs.declared.layout.Layout.TheVariants as L
 use Rattle.checkpoint.specs.Checkpoint.{ascii}
 use Rattle.checkpoint.specs.declared.Checkpoint.{Checkpoint}
 use Rattle.audit.specs.Verdict.{verdict_numbers}
-use Rattle.audit.specs.declared.validate.Verdict.{Verdict}
+use Rattle.audit.specs.Verdict.{Verdict}
 use Rattle.marks.specs.declared.action.RecoveryAction.{RecoveryAction}
 use Rattle.marks.specs.declared.action.RecoveryAction.TheVariants.{Restart, Resume, ManualReview}
 use Rattle.recovery.specs.declared.recover.Recovered.{Recovered}
@@ -25,9 +23,10 @@ use Rattle.lines.proofs.Names.{name_within}
 use Rattle.reply.specs.Result.{DeskResult, Refused, Told, files_layout, unless_refused, book_result, desk_result}
 use Rattle.reply.specs.Text.{verdict_line, action_line, last_line, recovered_lines, kind_line, report_lines, refused_line, result_text}
 use Rattle.reply.specs.Reply.{reply_text, replied}
-use Rattle.reply.specs.declared.Replied.TheVariants.{Done}
 use Rattle.reply.proofs.Compared.{kinds_of}
 use Rattle.reply.proofs.Parts.{result_few}
+use Rattle.std.specs.Prelude.{Ok, Err}
+use Rattle.wire.specs.Layout.{Layout}
 
 -- ---- each line
 field_within : (w : List ℕ) (n : ℕ) → length (field w n) ≤ length w + 20
@@ -92,9 +91,8 @@ result_within (Refused n) h = refused_within n
 result_within (Told v r ks) h = rw (length-append (recovered_lines v r)) (omega (arith, recovered_within v r, report_within ks))
 
 unless_few : (l : Layout) (x : DeskResult) → 48 * length (kinds_of x) ≤ 65536 → 48 * length (kinds_of (unless_refused l x)) ≤ 65536
-unless_few L.Sound x h = h
-unless_few L.Oversize x h = omega arith
-unless_few L.Broken x h = omega arith
+unless_few (Ok tt) x h = h
+unless_few (Err e) x h = omega arith
 
 pub reply_within : (book sheet : List ℕ) → length (reply_text book sheet) < 30000
 unfolding reply_text
@@ -102,5 +100,5 @@ reply_within book sheet =
     result_within (desk_result book sheet)
     (unless_few (files_layout book sheet) (book_result 65536 (pos 0) book sheet) (result_few (pos 0) book sheet 65536))
 
-pub always_done : (book sheet : List ℕ) → replied (reply_text book sheet) 65536 ≡ Done (length (reply_text book sheet))
+pub always_done : (book sheet : List ℕ) → replied (reply_text book sheet) 65536 ≡ Ok (length (reply_text book sheet))
 always_done book sheet = rw (le-leb (length (reply_text book sheet)) 65536 (omega (arith, reply_within book sheet)))

@@ -13,8 +13,6 @@ use lib.Seq.{take_at}
 use Rattle.wire.specs.Le.{le}
 use Rattle.wire.specs.Table.{records, encoded, padded}
 use Rattle.wire.specs.Layout.{both_of, oversize_if}
-use Rattle.wire.specs.declared.layout.Layout.{Layout}
-use Rattle.wire.specs.declared.layout.Layout.TheVariants as L
 use Rattle.wire.proofs.Records.{length_encoded, length_records}
 use Rattle.book.specs.Layout.{book_layout}
 use Rattle.book.specs.Time.{time_layout}
@@ -23,28 +21,27 @@ use Rattle.records.specs.Record.{order_bytes, position_bytes}
 use Rattle.records.proofs.Orders.{order_size}
 use Rattle.records.proofs.Positions.{position_size}
 use Rattle.effects.specs.Event.{events_of}
-use Rattle.audit.specs.Verdict.{book_verdict}
-use Rattle.audit.specs.declared.validate.Verdict.{Verdict}
+use Rattle.audit.specs.Verdict.{Verdict, book_verdict}
 use Rattle.recovery.specs.Recover.{State, first_state, roomy, state_of, done_if, refused_or, bytes_if, recovery, orders_out, positions_out}
 use Rattle.recovery.specs.declared.recover.Recovered.{Recovered}
-use Rattle.recovery.specs.declared.recover.Recovery.{Recovery}
 use Rattle.recovery.proofs.Rooms.{roomy_longer}
 use Rattle.reply.specs.Result.{DeskResult, Refused, Told, file_layout, first_refusal, files_layout, compared_result, by_recovery, book_result}
-use Rattle.reply.specs.Lent.{result_in, recovered_of}
-use Rattle.reply.specs.declared.LentResult.TheVariants as X
+use Rattle.reply.specs.Lent.{recovered_of}
 use Rattle.reply.proofs.Compared.{kinds_of, not_told, compared_few, compared_longer}
+use Rattle.std.specs.Prelude.{Ok, Err, Result}
+use Rattle.wire.specs.declared.refusal.Refusal.{Refusal}
+use Rattle.wire.specs.Layout.{Layout}
 
 -- the book and the sheet are sound where neither file is refused
-own_sound : (b : Bool) (l : Layout) → oversize_if b l ≡ L.Sound → l ≡ L.Sound
+own_sound : (b : Bool) (l : Layout) → oversize_if b l ≡ (Ok tt) → l ≡ (Ok tt)
 own_sound true l h = cc
 own_sound false l h = h
 
-first_sound : (l m : Layout) → first_refusal l m ≡ L.Sound → (l ≡ L.Sound) × (m ≡ L.Sound)
-first_sound L.Sound m h = (refl, h)
-first_sound L.Oversize m h = (h, (cc))
-first_sound L.Broken m h = (h, (cc))
+first_sound : (l m : Layout) → first_refusal l m ≡ (Ok tt) → (l ≡ (Ok tt)) × (m ≡ (Ok tt))
+first_sound (Ok tt) m h = (refl, h)
+first_sound (Err e) m h = (h, (cc))
 
-pub files_sound : (book sheet : List ℕ) → files_layout book sheet ≡ L.Sound → (book_layout book ≡ L.Sound) × (sheet_layout sheet ≡ L.Sound)
+pub files_sound : (book sheet : List ℕ) → files_layout book sheet ≡ (Ok tt) → (book_layout book ≡ (Ok tt)) × (sheet_layout sheet ≡ (Ok tt))
 files_sound book sheet h =
     let f = first_sound (file_layout book (book_layout book)) (file_layout sheet (sheet_layout sheet)) h in
     (own_sound (ltb 65536 (length book)) (book_layout book) f.0, own_sound (ltb 65536 (length sheet)) (sheet_layout sheet) f.1)
@@ -67,22 +64,20 @@ module _ (room : ℕ) (v : Verdict) (sheet : List ℕ) where
 
   -- the records that fit are those of the state
   pub fitting : (st : State)
-      → parts_result L.Sound true st ≡ compared_result room v (recovered_of st) (encoded order_bytes st.orders) (encoded position_bytes st.positions) sheet
+      → parts_result (Ok tt) true st ≡ compared_result room v (recovered_of st) (encoded order_bytes st.orders) (encoded position_bytes st.positions) sheet
   fitting st = rw (front order_bytes 64 order_size room st.orders, front position_bytes 32 position_size room st.positions)
 
   parts_few : (l : Layout) (b : Bool) (st : State) → 48 * length (kinds_of (parts_result l b st)) ≤ room
-  parts_few L.Sound true st = compared_few v (recovered_of st) _ _ sheet room
-  parts_few L.Sound false st = omega arith
-  parts_few L.Oversize b st = omega arith
-  parts_few L.Broken b st = omega arith
+  parts_few (Ok tt) true st = compared_few v (recovered_of st) _ _ sheet room
+  parts_few (Ok tt) false st = omega arith
+  parts_few (Err e) b st = omega arith
 
 parts_longer : (v : Verdict) (sheet : List ℕ) (room longer : ℕ) → room ≤ longer → (w : Verdict) (q : Recovered) (ks : List ℕ) (l : Layout) (a b : Bool) (st : State)
     → (a ≡ true → b ≡ true) → parts_result room v sheet l a st ≡ Told w q ks → parts_result longer v sheet l b st ≡ Told w q ks
-parts_longer v sheet room longer h w q ks L.Sound true b st f e =
+parts_longer v sheet room longer h w q ks (Ok tt) true b st f e =
     rw (f refl) (fitting longer v sheet st ∙ compared_longer v (recovered_of st) _ _ sheet w q ks room longer h (sym (fitting room v sheet st) ∙ e))
-parts_longer v sheet room longer h w q ks L.Sound false b st f e = not_told e
-parts_longer v sheet room longer h w q ks L.Oversize a b st f e = e
-parts_longer v sheet room longer h w q ks L.Broken a b st f e = e
+parts_longer v sheet room longer h w q ks (Ok tt) false b st f e = not_told e
+parts_longer v sheet room longer h w q ks (Err _) a b st f e = e
 
 -- ---- a book
 module _ (time : ℤ) (book sheet : List ℕ) where
@@ -105,7 +100,7 @@ module _ (time : ℤ) (book sheet : List ℕ) where
 -- ---- by what the functions promise
 module _ (book sheet : List ℕ) (n : ℕ) where
   -- the answer of a recovery into n zeros each
-  pub by_answer : (o₀ p₀ : List ℕ) → book_layout book ≡ L.Sound → o₀ ≡ replicate n 0 → p₀ ≡ replicate n 0 → (x : Recovery) (o p : List ℕ)
+  pub by_answer : (o₀ p₀ : List ℕ) → book_layout book ≡ (Ok tt) → o₀ ≡ replicate n 0 → p₀ ≡ replicate n 0 → (x : (Result Recovered Refusal)) (o p : List ℕ)
       → (x ≡ done_if (roomy (length o₀) (length p₀) (first_state (pos 0)) (events_of book)) (state_of book (pos 0)))
       × (o ≡ bytes_if x (length o₀) (encoded order_bytes (state_of book (pos 0)).orders))
       × (p ≡ bytes_if x (length p₀) (encoded position_bytes (state_of book (pos 0)).positions))
@@ -117,7 +112,7 @@ module _ (book sheet : List ℕ) (n : ℕ) where
 
   -- a result whose report was n zeros
   module _ (h : n ≤ 65536) (w : Verdict) (q : Recovered) (k : ℕ) (report : List ℕ)
-      (e : result_in (X.Told w q k) report ≡ book_result (length (replicate {A = ℕ} n 0)) (pos 0) book sheet) where
+      (e : Told w q (records (le 4) 48 k report) ≡ book_result (length (replicate {A = ℕ} n 0)) (pos 0) book sheet) where
     by_room : book_result n (pos 0) book sheet ≡ Told w q (records (le 4) 48 k report)
     by_room = sym (rw (length-replicate {A = ℕ} n 0) at e)
 

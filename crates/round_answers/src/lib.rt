@@ -6,38 +6,32 @@ ghost use Rattle.answers.specs.Answer.{numbers, number_alone};
 ghost use Rattle.round_answers.specs.RoundAnswer.{joining_numbers, rounded_numbers};
 
 use answers::Numbers;
-use join::Joining;
-use rounds::Rounded;
+use wire::refusal::Refusal;
 
-pub fn joining_numbers(j: Joining) -> Numbers
+// Two arms, as each answer's numbers: `answers::Numbers` says why.
+pub fn joining_numbers(j: Result<usize, Refusal>) -> Numbers
     ensures { result ≡ numbers (number_alone (joining_numbers j)) }
 {
     match j {
-        Joining::Done(n) => Numbers {
+        Ok(n) => Numbers {
             refusal: 0,
             a: n as u64,
             b: 0,
         },
-        Joining::Oversize => answers::OVERSIZE,
-        Joining::Broken => answers::BROKEN,
-        Joining::TooMany => answers::TOO_MANY,
-        Joining::NoRoom => answers::NO_ROOM,
+        Err(refusal) => refusal.into(),
     }
 }
 
-pub fn rounded_numbers(r: Rounded) -> Numbers
+// Two arms, as each answer's numbers: `answers::Numbers` says why.
+pub fn rounded_numbers(r: Result<usize, Refusal>) -> Numbers
     ensures { result ≡ numbers (number_alone (rounded_numbers r)) }
 {
     match r {
-        Rounded::Done(n) => Numbers {
+        Ok(n) => Numbers {
             refusal: 0,
             a: n as u64,
             b: 0,
         },
-        Rounded::Oversize => answers::OVERSIZE,
-        Rounded::Broken => answers::BROKEN,
-        Rounded::NoNumbers => answers::NO_NUMBERS,
-        Rounded::TooMany => answers::TOO_MANY,
-        Rounded::NoRoom => answers::NO_ROOM,
+        Err(refusal) => refusal.into(),
     }
 }

@@ -14,14 +14,14 @@ use lib.Seq.{drop-drop}
 use Rattle.wire.specs.Le.{le}
 use Rattle.wire.specs.Table.{every, records}
 use Rattle.wire.specs.Layout.{sound_if, oversize_if, broken_if}
-use Rattle.wire.specs.declared.layout.Layout.{Layout}
-use Rattle.wire.specs.declared.layout.Layout.TheVariants.{Sound}
 use Rattle.wire.proofs.Table.{records_none}
 use Rattle.wire.proofs.Numbers.{le_add}
 use Rattle.wire.proofs.Records.{length_records}
 use Rattle.symbol.specs.Symbol.{wide_field_ok}
 use Rattle.wire.proofs.Bools.{and_left, and_right, and_false, and-true}
 use Rattle.sheet.specs.Sheet.{order_count, position_count, orders_failed, positions_failed, orders_in, positions_in, broker_order_ok, broker_order_of, broker_position_of, sheet_orders, sheet_positions, sheet_most, offsets_ok, mark_ok, header_ok, parts_ok, sheet_layout}
+use Rattle.std.specs.Prelude.{Ok}
+use Rattle.wire.specs.Layout.{Layout}
 
 -- the state and the four zeros after it are one number of at most 5
 low_only : (a x : ℕ) → leb (a + 4294967296 * x) 5 ≡ (leb a 5 && eqb x 0)
@@ -53,15 +53,15 @@ module _ (s : List ℕ) (i : ℕ) where
   orders_end h = drop_of_length-le (sheet_orders s) {i = i} (rw (length_records broker_order_of 24 (order_count s) (drop 24 s)) h)
 
 -- ---- what a sound sheet holds
-broken_no : (b : Bool) (y : Layout) → broken_if b y ≡ Sound → (b ≡ false) × (y ≡ Sound)
+broken_no : (b : Bool) (y : Layout) → broken_if b y ≡ (Ok tt) → (b ≡ false) × (y ≡ (Ok tt))
 broken_no true y e = let z : ◌≡◌ {A = ℕ} 0 1 = cc in absurd (omega arith)
 broken_no false y e = (refl, e)
 
-oversize_no : (b : Bool) (y : Layout) → oversize_if b y ≡ Sound → (b ≡ false) × (y ≡ Sound)
+oversize_no : (b : Bool) (y : Layout) → oversize_if b y ≡ (Ok tt) → (b ≡ false) × (y ≡ (Ok tt))
 oversize_no true y e = let z : ◌≡◌ {A = ℕ} 0 1 = cc in absurd (omega arith)
 oversize_no false y e = (refl, e)
 
-sound_yes : (b : Bool) → sound_if b ≡ Sound → b ≡ true
+sound_yes : (b : Bool) → sound_if b ≡ (Ok tt) → b ≡ true
 sound_yes true e = refl
 sound_yes false e = let z : ◌≡◌ {A = ℕ} 0 1 = cc in absurd (omega arith)
 
@@ -86,7 +86,7 @@ pub record SoundSheet (s : List ℕ) : Type 0 where
   pub orders_right : every broker_order_ok 24 (order_count s) (orders_in s) ≡ true
   pub positions_right : every wide_field_ok 24 (position_count s) (positions_in s) ≡ true
 
-pub sound_sheet : (s : List ℕ) → sheet_layout s ≡ Sound → SoundSheet s
+pub sound_sheet : (s : List ℕ) → sheet_layout s ≡ (Ok tt) → SoundSheet s
 unfolding sheet_layout parts_ok header_ok offsets_ok sheet_orders sheet_positions
 sound_sheet s e =
     let n = order_count s in

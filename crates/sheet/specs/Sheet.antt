@@ -6,15 +6,14 @@ use Rattle.std.proofs.Common.{to_z}
 use Rattle.wire.specs.Le.{le}
 use Rattle.wire.specs.Table.{every, records}
 use Rattle.wire.specs.Layout.{sound_if, oversize_if, broken_if}
-use Rattle.wire.specs.declared.layout.Layout.{Layout}
 use Rattle.symbol.specs.Symbol.{field_symbol, wide_field_ok}
 use Rattle.types.specs.Order.{state_of}
 use Rattle.types.specs.declared.order.OrderState.{OrderState}
 use Rattle.types.specs.declared.order.OrderState.TheVariants.{Pending}
-use Rattle.types.specs.declared.order.NumberedState.{NumberedState}
-use Rattle.types.specs.declared.order.NumberedState.TheVariants.{Is, Unknown}
 use Rattle.sheet.specs.declared.BrokerOrderStatus.{BrokerOrderStatus}
 use Rattle.sheet.specs.declared.BrokerPosition.{BrokerPosition}
+use Rattle.std.specs.Prelude.{Some, None, Option}
+use Rattle.wire.specs.Layout.{Layout}
 
 -- ---- the header: order count, offset, position count, offset, orders_failed_lem, positions_failed_lem
 abbrev pub order_count : List ℕ → ℕ
@@ -41,9 +40,9 @@ unfoldable pub broker_order_ok : List ℕ → Bool
 broker_order_ok s = leb (le 4 (drop 16 s)) 5 && eqb (le 4 (drop 20 s)) 0
 
 -- a number that names no state stands in no sheet that is right
-abbrev pub state_in : NumberedState → OrderState
-state_in (Is x) = x
-state_in Unknown = Pending
+abbrev pub state_in : Option OrderState → OrderState
+state_in (Some x) = x
+state_in None = Pending
 
 abbrev pub broker_order_of : List ℕ → BrokerOrderStatus
 broker_order_of s =

@@ -4,15 +4,15 @@
 // where `check` answers `Sound`. The contracts cite `specs/Sheet.antt`.
 #![tactic(auto)]
 
-ghost use Rattle.std.specs.Prelude.{◌≡◌, ◌+◌, ◌*◌, drop};
+ghost use Rattle.std.specs.Prelude.{◌≡◌, Ok, Err, MatchResult, ◌+◌, ◌*◌, drop};
 ghost use Rattle.wire.specs.Table.{every};
 ghost use Rattle.symbol.specs.Symbol.{wide_field_ok};
 ghost use Rattle.types.specs.Order.{state_of};
 ghost use Rattle.sheet.specs.Sheet.{order_count, position_count, orders_failed, state_in, broker_order_of, broker_position_of, broker_order_ok, offsets_ok, mark_ok, header_ok, parts_ok, sheet_layout};
 
 use symbol::Symbol;
-use types::order::{NumberedState, OrderId, OrderState};
-use wire::layout::Layout;
+use types::order::{OrderId, OrderState};
+use wire::refusal::Refusal;
 
 #[derive(Clone, Copy)]
 pub struct BrokerOrderStatus {
@@ -51,13 +51,11 @@ pub fn orders_failed(sheet: &[u8]) -> bool
 fn state_of(n: u32) -> OrderState
     ensures { result ≡ state_in (state_of n) }
 {
-    match OrderState::from_number(n) {
-        NumberedState::Is(x) => x,
-        NumberedState::Unknown => OrderState::Pending,
-    }
+    OrderState::from_number(n).unwrap_or(OrderState::Pending)
 }
 
-// The order at the front of a slice, and that of a sheet's table at index `i`, counted from 0.
+// The order at the front of a slice, and that of a sheet's table at index `i`, counted from 0. It and the position below have other fields and another type: what
+// they share are the readers of `wire`.
 fn order_of(s: &[u8]) -> BrokerOrderStatus
     ensures { result ≡ broker_order_of s.now }
 {
@@ -111,117 +109,92 @@ pub fn position_at(sheet: &[u8], i: u32) -> BrokerPosition
 fn order_ok(s: &[u8], at: usize) -> bool
     ensures { result ≡ broker_order_ok (drop at s.now) }
 {
-    let order = wire::from(s, at);
-    wire::u64_at(order, 16) <= 5
+    wire::u64_at(wire::from(s, at), 16) <= 5
 }
 
-// Whether each of the `n` records at the front of a slice is right, of orders and of positions.
+// Whether each of the `n` records at the front of a slice is right, of orders and of positions. The header has `n`, and the slice goes on past the table. Each is
+// one chain of the library; a generic would take the test that is all it says.
 fn orders_ok(s: &[u8], n: u32) -> bool
     ensures { result ≡ every broker_order_ok 24 n s.now }
 {
-    let mut at: usize = 0;
-    let mut left = n;
-    while 0 < left {
-        if !order_ok(s, at) {
-            return false;
-        }
-        at += 24;
-        left -= 1;
-    }
-    true
+    (0..n as usize).all(|i| order_ok(s, 24 * i))
 }
 
 fn positions_ok(s: &[u8], n: u32) -> bool
     ensures { result ≡ every wide_field_ok 24 n s.now }
 {
-    let mut at: usize = 0;
-    let mut left = n;
-    while 0 < left {
-        if !symbol::wide_field_ok(wire::from(s, at)) {
-            return false;
-        }
-        at += 24;
-        left -= 1;
-    }
-    true
+    (0..n as usize).all(|i| symbol::wide_field_ok(wire::from(s, 24 * i)))
 }
 
 // Whether the tables follow the header without gaps and end the sheet of `len` bytes.
 fn offsets_ok(orders: u32, first: u32, positions: u32, second: u32, len: usize) -> bool
     ensures { result ≡ offsets_ok orders first positions second len }
 {
-    if first != 24 {
-        return false;
-    }
     let end = 24 + 24 * (orders as usize);
-    if (second as usize) != end {
-        return false;
-    }
-    len == end + 24 * (positions as usize)
+    first == 24 && second as usize == end && len == end + 24 * (positions as usize)
 }
 
 // Whether a failed mark is 0, or 1 with a count of 0.
 fn mark_ok(mark: u32, count: u32) -> bool
     ensures { result ≡ mark_ok mark count }
 {
-    if mark == 0 {
-        return true;
-    }
-    if mark != 1 {
-        return false;
-    }
-    count == 0
+    mark == 0 || (mark == 1 && count == 0)
 }
 
 fn header_ok(sheet: &[u8]) -> bool
     ensures { result ≡ header_ok sheet.now }
 {
-    let orders = wire::u32_of(sheet);
-    let positions = wire::u32_at(sheet, 8);
-    if !offsets_ok(
+    let orders = order_count(sheet);
+    let positions = position_count(sheet);
+    offsets_ok(
         orders,
         wire::u32_at(sheet, 4),
         positions,
         wire::u32_at(sheet, 12),
         sheet.len(),
-    ) {
-        return false;
-    }
-    if !mark_ok(wire::u32_at(sheet, 16), orders) {
-        return false;
-    }
-    mark_ok(wire::u32_at(sheet, 20), positions)
+    ) && mark_ok(wire::u32_at(sheet, 16), orders)
+        && mark_ok(wire::u32_at(sheet, 20), positions)
 }
 
 fn parts_ok(sheet: &[u8]) -> bool
     ensures { result ≡ parts_ok sheet.now }
 {
-    if !header_ok(sheet) {
-        return false;
-    }
     let orders = order_count(sheet);
-    if !orders_ok(wire::from(sheet, 24), orders) {
-        return false;
-    }
-    positions_ok(
-        wire::from(sheet, 24 + 24 * (orders as usize)),
-        position_count(sheet),
-    )
+    header_ok(sheet)
+        && orders_ok(wire::from(sheet, 24), orders)
+        && positions_ok(
+            wire::from(sheet, 24 + 24 * (orders as usize)),
+            position_count(sheet),
+        )
 }
 
 // Entry. Whether the bytes are a broker's sheet: refusal 1 for more than 1,024 orders or positions, as the header claims; refusal 2 for a
 // header that is not whole, and for any other fault of the layout.
-pub fn check(sheet: &[u8]) -> Layout
+pub fn check(sheet: &[u8]) -> Result<(), Refusal>
     ensures { result ≡ sheet_layout sheet.now }
 {
     if sheet.len() < 24 {
-        return Layout::Broken;
+        return Err(Refusal::Broken);
     }
-    if 1024 < order_count(sheet) {
-        return Layout::Oversize;
+    if 1024 < order_count(sheet) || 1024 < position_count(sheet) {
+        return Err(Refusal::Oversize);
     }
-    if 1024 < position_count(sheet) {
-        return Layout::Oversize;
+    wire::refusal::sound_if(parts_ok(sheet))
+}
+
+// A sheet that `check` finds sound.
+#[derive(Clone, Copy)]
+pub struct SoundSheet<'a> {
+    pub bytes: &'a [u8],
+    ghost sound: { sheet_layout bytes.now ≡ Ok tt },
+}
+
+impl<'a> SoundSheet<'a> {
+    // The sheet that these bytes are, or why they are none.
+    pub fn try_new(bytes: &'a [u8]) -> Result<SoundSheet<'a>, Refusal>
+        ensures { MatchResult result (λ sheet. (sheet.bytes.now ≡ bytes.now) × (sheet_layout bytes.now ≡ Ok tt)) (λ r. sheet_layout bytes.now ≡ Err r) }
+    {
+        check(bytes)?;
+        Ok(SoundSheet { bytes })
     }
-    wire::layout::sound_if(parts_ok(sheet))
 }

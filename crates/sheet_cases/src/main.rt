@@ -6,45 +6,29 @@
 #![tactic(auto)]
 
 use std::io;
-use std::io::Read;
 use symbol::Symbol;
 
-// Writes the symbol UNKNOWN into each of `n` position records from `at` on.
+// Writes the symbol UNKNOWN into each of `n` position records from `at` on. `large_cases` has such a loop of records: one line each.
 fn put_symbols(d: &mut [u8], at: u32, n: u32) {
-    let mut i = at as usize;
-    let mut left = n;
-    while 0 < left {
-        symbol::put_wide_field(d, i, Symbol::unknown());
-        i += 24;
-        left -= 1;
+    for k in 0..n {
+        symbol::put_wide_field(d, at as usize + 24 * k as usize, Symbol::unknown());
     }
 }
 
-fn show_case(rt: &impl Print, case: &[u8]) -> io::Result<()> {
-    let mut d = [0u8; 65536];
+// Nothing is allocated: a fixed buffer, and what of it counts.
+fn tell(rt: &impl Print, case: &[u8; 256]) -> io::Result<()> {
+    let mut d = [0; 65536];
     wire::copy(&mut d, 0, wire::from(case, 96));
     put_symbols(&mut d, wire::u32_at(case, 16), wire::u32_at(case, 24));
-    cases::tell_label(rt, wire::part(case, 32, wire::u64_of(case) as usize))?;
     let sheet = wire::part(&d, 0, wire::u64_at(case, 8) as usize);
-    cases::tell_number(rt, cases::refusal(sheet::check(sheet)))
+    cases::tell_label(rt, wire::part(case, 32, wire::u64_of(case) as usize))?;
+    println!(rt; "{}", cases::refusal(sheet::check(sheet)))
 }
 
-// Reads a case and shows it; false where none is left.
-fn read_case(rt: &impl Print, file: &mut impl Read) -> io::Result<bool> {
-    let mut case = [0u8; 256];
-    if cases::read_full(file, &mut case)? != 256 {
-        return Ok(false);
-    }
-    show_case(rt, &case)?;
-    Ok(true)
-}
-
+// As in each program of cases: a function over a closure with `?` would be no shorter.
 fn main(rt: HostRuntime) -> io::Result<()> {
-    let mut file = cases::open(&rt)?;
-    for _ in 0..1000u32 {
-        if !read_case(&rt, &mut file)? {
-            break;
-        }
+    for case in cases::all(cases::open(&rt)?) {
+        tell(&rt, &case?)?;
     }
     Ok(())
 }

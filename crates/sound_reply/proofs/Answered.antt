@@ -11,13 +11,11 @@ use lib.Dec.{leb}
 use lib.IntN.{pos}
 use lib.ListN.{length, drop}
 use Rattle.wire.specs.Table.{encoded}
-use Rattle.wire.specs.declared.layout.Layout.TheVariants as L
 use Rattle.wire.proofs.Written.{Bytes}
 use Rattle.book.specs.Layout.{book_layout}
 use Rattle.sheet.specs.Sheet.{sheet_layout}
 use Rattle.records.specs.Record.{order_bytes, position_bytes}
-use Rattle.audit.specs.Verdict.{book_verdict}
-use Rattle.audit.specs.declared.validate.Verdict.{Verdict}
+use Rattle.audit.specs.Verdict.{Verdict, book_verdict}
 use Rattle.recovery.specs.Recover.{State, state_of}
 use Rattle.recovery.specs.declared.recover.Recovered.{Recovered}
 use Rattle.compare.specs.Report.{discrepancy_kind}
@@ -32,6 +30,7 @@ use Rattle.reply.proofs.Parts.{fitting, by_parts}
 use Rattle.sound_state.proofs.Recovered.{recovered_orders_sound, recovered_orders_in, recovered_positions_sound, recovered_positions_in}
 use Rattle.sound_reply.specs.Answered.{report_on, told_if_room, answered}
 use Rattle.sound_reply.proofs.RoomEnough.{has_room}
+use Rattle.std.specs.Prelude.{Ok}
 
 -- by the room for the report
 by_room : (v : Verdict) (st : State) (xs : List Discrepancy) (b : Bool)
@@ -56,8 +55,8 @@ numbers_apart : (first_byte (drop 8 (refused_line 1)) ≡ 49) × (first_byte (dr
 unfolding refused_line digits
 numbers_apart = (refl, refl, refl)
 
-module _ (book sheet : List ℕ) (bytes : Bytes book) (sound : book_layout book ≡ L.Sound) (small : length book ≤ 65536)
-    (listed : sheet_layout sheet ≡ L.Sound) (lean : length sheet ≤ 65536) where
+module _ (book sheet : List ℕ) (bytes : Bytes book) (sound : book_layout book ≡ (Ok tt)) (small : length book ≤ 65536)
+    (listed : sheet_layout sheet ≡ (Ok tt)) (lean : length sheet ≤ 65536) where
   abbrev st : State
   st = state_of book (pos 0)
 
@@ -70,7 +69,7 @@ module _ (book sheet : List ℕ) (bytes : Bytes book) (sound : book_layout book 
   abbrev v : Verdict
   v = book_verdict book
 
-  unrefused : files_layout book sheet ≡ L.Sound
+  unrefused : files_layout book sheet ≡ (Ok tt)
   unrefused = rw (le-ltb 65536 (length book) small, sound, le-ltb 65536 (length sheet) lean, listed)
 
   -- recovery has room: refusal 3 can only come from the report

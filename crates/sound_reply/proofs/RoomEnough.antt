@@ -1,6 +1,8 @@
 -- Buffers as long as a sound book have room for all that it recovers, after each event: a list makes at most as many orders or positions as the book has rows,
 -- of 64 bytes each, and another event at most one order. About no function.
 -- Assumes nothing.
+use Rattle.checkpoint.specs.declared.Checkpoint.{Checkpoint}
+use Rattle.cell.specs.declared.ListRef.{ListRef}
 use Prim.Native.Nat.{ℕ, zero, suc, ◌+◌, ◌*◌, ◌≤◌}
 use mathlib.Core.Path.{◌≡◌, refl}
 use mathlib.Core.List.{List, [], ◌∷◌}
@@ -12,33 +14,27 @@ use lib.Dec.{lit<}
 use lib.IntN.{ℤ}
 use lib.ListN.{length, drop}
 use Rattle.wire.specs.Table.{every, records}
-use Rattle.wire.specs.declared.layout.Layout.TheVariants as L
 use Rattle.wire.proofs.Bools.{and_left, and_right}
 use Rattle.wire.proofs.Records.{length_records}
 use Rattle.cell.specs.Cell.{as_array}
-use Rattle.cell.specs.declared.AsArray.{AsArray}
-use Rattle.cell.specs.declared.AsArray.TheVariants as A
 use Rattle.book.specs.Layout.{event_ok, event_count, row_count, text_length, book_layout}
 use Rattle.book.specs.Event.{events_in, rows_in, text_of, name_in, positions_cell}
 use Rattle.book.proofs.Sound.{cell_list, sound_size}
 use Rattle.checkpoint.specs.Checkpoint.{named, same_checkpoint}
 use Rattle.checkpoint.specs.declared.Checkpoint.TheVariants.{PositionsFetched, PositionsResult}
-use Rattle.checkpoint.specs.declared.Named.{Named}
-use Rattle.checkpoint.specs.declared.Named.TheVariants as K
 use Rattle.records.specs.declared.position.Position.{Position}
 use Rattle.effects.specs.Event.{Row, event_of, events_of, row_of, rows_of}
 use Rattle.effects.specs.Step.{kept_of, kept_before, positions_of_rows, positions_from, positions_at, positions_by}
-use Rattle.effects.specs.declared.rows.Kept.{Kept}
-use Rattle.effects.specs.declared.rows.Kept.TheVariants as Keep
 use Rattle.recovery.specs.Recover.{State, first_state, step, roomy}
 use Rattle.recovery.proofs.OrdersFew.{orders_few}
 use Rattle.sound_state.proofs.Tables.{and_both}
 use Rattle.sound_state.proofs.Tabled.{laid, event_cell_at}
+use Rattle.std.specs.Prelude.{Some, None, Ok, Option}
 
 -- ---- positions: at most as many as there are rows
-kept_few : (k : Kept) (ps : List Position) (n : ℕ) → length ps ≤ n → length (kept_before k ps) ≤ n + 1
-kept_few (Keep.Is p) ps n h = omega arith
-kept_few Keep.Nothing ps n h = omega arith
+kept_few : (k : (Option Position)) (ps : List Position) (n : ℕ) → length ps ≤ n → length (kept_before k ps) ≤ n + 1
+kept_few (Some p) ps n h = omega arith
+kept_few None ps n h = omega arith
 
 rows_few : (rs : List Row) → length (positions_of_rows rs) ≤ length rs
 unfolding positions_of_rows
@@ -46,17 +42,19 @@ rows_few [] = omega arith
 rows_few (r ∷ rs) = omega (arith, kept_few (kept_of r) (positions_of_rows rs) (length rs) (rows_few rs))
 
 module _ (rows text e : List ℕ) (count len : ℕ) (ok : event_ok count len e ≡ true) (ps : List Position) (few : length ps ≤ count) where
-  listed_few : (a : AsArray) → as_array (positions_cell e) ≡ a → length (positions_from (rows_of rows text a) ps) ≤ count
-  listed_few A.Nothing q = few
-  listed_few (A.Is first n) q =
+  listed_few : (a : (Option ListRef)) → as_array (positions_cell e) ≡ a → length (positions_from (rows_of rows text a) ps) ≤ count
+  listed_few None q = few
+  listed_few (Some a) q =
+      let first = a.first in
+      let n = a.count in
       let l : n ≤ count = cell_list count len (drop 176 e) (event_cell_at count len e 9 ok (lit< tt)) q in
       let rs = records (row_of text) 64 n (drop (64 * first) rows) in
       omega (arith, rows_few rs, length_records (row_of text) 64 n (drop (64 * first) rows))
 
-  positions_few : (k : Named) → length (positions_by k (event_of rows text e) ps) ≤ count
+  positions_few : (k : (Option Checkpoint)) → length (positions_by k (event_of rows text e) ps) ≤ count
   unfolding positions_by positions_at
-  positions_few K.Nothing = few
-  positions_few (K.Is k) = by (same_checkpoint k PositionsFetched || same_checkpoint k PositionsResult)
+  positions_few None = few
+  positions_few (Some k) = by (same_checkpoint k PositionsFetched || same_checkpoint k PositionsResult)
     where
       by : (b : Bool) → length (cond b (positions_from (rows_of rows text (as_array (positions_cell e))) ps) ps) ≤ count
       by true = listed_few (as_array (positions_cell e)) refl
@@ -80,7 +78,7 @@ module _ (rows text : List ℕ) (count len orders positions : ℕ) (second : 32 
       (and_both (le-leb (64 * length x.orders) orders (omega arith)) (le-leb (32 * length x.positions) positions (omega arith)))
       next
 
-pub has_room : (s : List ℕ) (time : ℤ) (orders positions : ℕ) → book_layout s ≡ L.Sound → length s ≤ orders → length s ≤ positions
+pub has_room : (s : List ℕ) (time : ℤ) (orders positions : ℕ) → book_layout s ≡ (Ok tt) → length s ≤ orders → length s ≤ positions
     → roomy orders positions (first_state time) (events_of s) ≡ true
 has_room s time orders positions sound o p =
     let k = laid s sound in

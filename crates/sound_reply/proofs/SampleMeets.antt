@@ -7,7 +7,6 @@ use lib.Dec.{lit≤}
 use lib.IntN.{pos, negsuc}
 use Rattle.wire.specs.Le.{le, bytes_of}
 use Rattle.wire.specs.Table.{every, encoded}
-use Rattle.wire.specs.declared.layout.Layout.TheVariants as L
 use Rattle.wire.proofs.Written.{Bytes}
 use Rattle.symbol.specs.Symbol.{all_of, wide_field_ok, field_ok}
 use Rattle.book.specs.Layout.{payload_ok, cell_ok, row_cell_ok, row_ok, window_ok, head_ok, event_head_ok, event_ok, offsets_ok, tables_ok, parts_ok, book_layout}
@@ -22,16 +21,18 @@ use Rattle.reply.proofs.ReplyExamples.{opening, answered_run, sample, sheet_of}
 use Rattle.sound_state.proofs.Tables.{bytes_if_lem}
 use Rattle.sound_reply.specs.Answered.{answered}
 use Rattle.sound_reply.proofs.Answered.{reply_answered}
+use Rattle.std.specs.Prelude.{Ok, Err}
+use Rattle.wire.specs.declared.refusal.Refusal.TheVariants as Refusal
 
 sample_bytes : Bytes sample
 unfolding sample answered_run opening book_bytes event_table bytes_of encoded all_of
 sample_bytes = bytes_if_lem sample tt
 
-sample_sound : book_layout sample ≡ L.Sound
+sample_sound : book_layout sample ≡ (Ok tt)
 unfolding sample answered_run opening book_bytes event_table bytes_of encoded book_layout parts_ok tables_ok offsets_ok event_ok event_head_ok head_ok window_ok row_ok row_cell_ok cell_ok payload_ok le every
 sample_sound = refl
 
-sheet_sound : sheet_layout (sheet_of []) ≡ L.Sound
+sheet_sound : sheet_layout (sheet_of []) ≡ (Ok tt)
 unfolding sheet_of bytes_of encoded sheet_layout sheet_parts_ok sheet_offsets_ok header_ok mark_ok broker_order_ok wide_field_ok field_ok all_of le every
 sheet_sound = refl
 
@@ -39,7 +40,7 @@ pub sample_answered : reply_text sample (sheet_of []) ≡ result_text (answered 
 unfolding sample answered_run opening book_bytes event_table bytes_of sheet_of encoded
 sample_answered = reply_answered sample (sheet_of []) sample_bytes sample_sound (lit≤ tt) sheet_sound (lit≤ tt)
 
-times : (time_layout (pos 1767225600000) ≡ L.Sound) × (time_layout (negsuc 0) ≡ L.Broken)
+times : (time_layout (pos 1767225600000) ≡ (Ok tt)) × (time_layout (negsuc 0) ≡ (Err Refusal.Broken))
 times = (refl, refl)
 
 before_1970 : desk_result_at (negsuc 0) sample (sheet_of []) ≡ Refused 2

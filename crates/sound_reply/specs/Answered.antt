@@ -2,8 +2,7 @@
 -- Assumes nothing.
 use Rattle.std.specs.Prelude.{ℕ, ◌*◌, List, map, cond, leb, pos, length}
 use Rattle.sheet.specs.Sheet.{sheet_orders, sheet_positions}
-use Rattle.audit.specs.Verdict.{book_verdict}
-use Rattle.audit.specs.declared.validate.Verdict.{Verdict}
+use Rattle.audit.specs.Verdict.{Verdict, book_verdict}
 use Rattle.recovery.specs.Recover.{State, state_of}
 use Rattle.compare.specs.Report.{report, discrepancy_kind}
 use Rattle.compare.specs.declared.discrepancy.Discrepancy.{Discrepancy}

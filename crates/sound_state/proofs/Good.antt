@@ -3,14 +3,11 @@
 -- Assumes nothing.
 use Prim.Native.Nat.{ℕ, ◌+◌, ◌≤◌}
 use mathlib.Core.List.{List}
-use mathlib.Core.Option.{Option, none, some}
 use mir.Syntax.{w64}
 use mir.Val.{SFits}
 use Rattle.wire.proofs.Written.{Bytes}
 use Rattle.wire.proofs.Records.{Each}
 use Rattle.cell.specs.declared.TextRef.{TextRef}
-use Rattle.cell.specs.declared.AsStr.{AsStr}
-use Rattle.cell.specs.declared.AsStr.TheVariants as Str
 use Rattle.records.specs.declared.order.Order.{Order}
 use Rattle.records.specs.declared.position.Position.{Position}
 use Rattle.records.proofs.Orders.{OrderFits, StrFits}
@@ -18,14 +15,15 @@ use Rattle.effects.specs.Event.{Row, Event}
 use Rattle.effects.specs.Step.{whole_or}
 use Rattle.recovery.specs.Recover.{State}
 use Rattle.sound_state.proofs.Spelling.{Spelt}
+use Rattle.std.specs.Prelude.{Option, Some, None}
 
 -- ---- references within a text of n bytes
 abbrev pub RefIn : ℕ → TextRef → Type 0
 RefIn n r = r.first + r.len ≤ n
 
-abbrev pub StrIn : ℕ → AsStr → Type 0
-StrIn n (Str.Is r) = RefIn n r
-StrIn n Str.Nothing = Unit
+abbrev pub StrIn : ℕ → Option TextRef → Type 0
+StrIn n (Some r) = RefIn n r
+StrIn n None = Unit
 
 pub record RefsIn (n : ℕ) (o : Order) : Type 0 where
   pub action : RefIn n o.action
@@ -50,13 +48,13 @@ pub record GoodState (n : ℕ) (st : State) : Type 0 where
   pub positions : Each GoodPosition st.positions
 
 -- of what an event or a row gives
-pub record GoodStr (n : ℕ) (a : AsStr) : Type 0 where
+pub record GoodStr (n : ℕ) (a : (Option TextRef)) : Type 0 where
   pub fits : StrFits a
   pub within : StrIn n a
 
 abbrev pub TextBytes : Option (List ℕ) → Type 0
-TextBytes none = Unit
-TextBytes (some t) = Bytes t
+TextBytes None = Unit
+TextBytes (Some t) = Bytes t
 
 pub record GoodRow (n : ℕ) (r : Row) : Type 0 where
   pub symbol : TextBytes r.symbol
@@ -64,8 +62,8 @@ pub record GoodRow (n : ℕ) (r : Row) : Type 0 where
   pub amount : SFits w64 (whole_or r.amount)
 
 abbrev pub GoodRows : ℕ → Option (List Row) → Type 0
-GoodRows n none = Unit
-GoodRows n (some rs) = Each (GoodRow n) rs
+GoodRows n None = Unit
+GoodRows n (Some rs) = Each (GoodRow n) rs
 
 pub record GoodEvent (n : ℕ) (e : Event) : Type 0 where
   pub symbol : TextBytes e.symbol

@@ -10,17 +10,12 @@ use lib.ListN.{drop}
 use borrow.Author.Tests.{leb-true}
 use Rattle.wire.specs.Le.{le}
 use Rattle.wire.specs.Table.{every, records}
-use Rattle.wire.specs.declared.layout.Layout.TheVariants as L
 use Rattle.wire.proofs.Written.{Bytes}
 use Rattle.wire.proofs.Records.{Each}
 use Rattle.wire.proofs.Records as Of
 use Rattle.wire.proofs.Bools.{and_left, and_right}
 use Rattle.symbol.proofs.Text.{bytes_take, bytes_drop}
 use Rattle.cell.specs.Cell.{cell_by, cell_of, as_str, as_array}
-use Rattle.cell.specs.declared.AsStr.{AsStr}
-use Rattle.cell.specs.declared.AsStr.TheVariants as Str
-use Rattle.cell.specs.declared.AsArray.{AsArray}
-use Rattle.cell.specs.declared.AsArray.TheVariants as A
 use Rattle.book.specs.Layout.{payload_ok, cell_ok, row_ok, event_ok, event_count, row_count, text_length, book_layout}
 use Rattle.book.specs.Event.{events_in, rows_in, text_of, symbol_cell, positions_cell, orders_cell}
 use Rattle.effects.specs.Event.{Event, bytes_of_text, row_of, rows_of, event_of, events_of}
@@ -32,6 +27,9 @@ use Rattle.sound_state.proofs.Tabled.{laid, row_cell_at, event_cell_at}
 use Rattle.sound_state.proofs.Good.{StrIn, GoodState, GoodStr, TextBytes, GoodRow, GoodRows, GoodEvent}
 use Rattle.sound_state.proofs.GoodOrders.{orders_step_lem}
 use Rattle.sound_state.proofs.GoodPositions.{positions_step_lem}
+use Rattle.cell.specs.declared.TextRef.{TextRef}
+use Rattle.cell.specs.declared.ListRef.{ListRef}
+use Rattle.std.specs.Prelude.{Some, None, Ok, Option}
 
 -- ---- a cell's text lies within the book's
 str_payload : (rows text k p : ℕ) → payload_ok rows text k p ≡ true → StrIn text (as_str (cell_by k p))
@@ -53,9 +51,9 @@ str_good : (rows text : ℕ) (s : List ℕ) → Bytes s → cell_ok rows text s 
 str_good rows text s b e = record { fits = str_fits s b; within = str_within rows text s e }
 
 -- ---- the texts of cells are bytes
-text_good : (text : List ℕ) (a : AsStr) → Bytes text → TextBytes (bytes_of_text text a)
-text_good text (Str.Is r) b = bytes_take r.len (drop r.first text) (bytes_drop r.first text b)
-text_good text Str.Nothing b = tt
+text_good : (text : List ℕ) (a : (Option TextRef)) → Bytes text → TextBytes (bytes_of_text text a)
+text_good text (Some r) b = bytes_take r.len (drop r.first text) (bytes_drop r.first text b)
+text_good text None b = tt
 
 -- ---- rows
 row_good : (rows : ℕ) (text r : List ℕ) (n : ℕ) → Bytes text → Bytes r → row_ok rows n r ≡ true → GoodRow n (row_of text r)
@@ -75,10 +73,10 @@ rows_good rows text n bt (suc k) s b h =
     (rows_good rows text n bt k (drop 64 s) (bytes_drop 64 s b) (and_right (row_ok rows n s) (every (row_ok rows n) 64 k (drop 64 s)) h))
 
 array_good : (rows : ℕ) (table text : List ℕ) (n : ℕ) → Bytes text → Bytes table → every (row_ok rows n) 64 rows table ≡ true
-    → (a : AsArray) → ArrayIn rows a → GoodRows n (rows_of table text a)
-array_good rows table text n bt br h A.Nothing q = tt
-array_good rows table text n bt br h (A.Is first count) q =
-    rows_good rows text n bt count (drop (64 * first) table) (bytes_drop (64 * first) table br) (every_from (row_ok rows n) 64 first count rows table q h)
+    → (a : (Option ListRef)) → ArrayIn rows a → GoodRows n (rows_of table text a)
+array_good rows table text n bt br h None q = tt
+array_good rows table text n bt br h (Some l) q =
+    rows_good rows text n bt l.count (drop (64 * l.first) table) (bytes_drop (64 * l.first) table br) (every_from (row_ok rows n) 64 l.first l.count rows table q h)
 
 -- ---- events
 module _ (rows : ℕ) (table text : List ℕ) (n : ℕ) (bt : Bytes text) (br : Bytes table) (ok : every (row_ok rows n) 64 rows table ≡ true) where
@@ -110,7 +108,7 @@ steps_good n (e ∷ es) st (Of.more g gs) h =
     steps_good n es (step e st) gs
     (record { orders = orders_step_lem n st.orders h.orders e g; positions = positions_step_lem n e st.positions g.positions h.positions })
 
-pub state_good : (log : List ℕ) (time : ℤ) → Bytes log → book_layout log ≡ L.Sound → GoodState (text_length log) (state_of log time)
+pub state_good : (log : List ℕ) (time : ℤ) → Bytes log → book_layout log ≡ (Ok tt) → GoodState (text_length log) (state_of log time)
 state_good log time b h =
     let k = laid log h in
     let bt = bytes_drop (24 + 240 * event_count log + 64 * row_count log) log b in

@@ -3,7 +3,6 @@
 use Prim.Native.Nat.{ℕ, ◌%◌, ◌^◌, ◌<◌}
 use mathlib.Core.List.{List, [], ◌∷◌, ◌++◌, map}
 use mathlib.Core.Bool.{Bool, true, false, cond}
-use mathlib.Core.Option.{Option, none, some}
 use native.Mathlib.Omega.{arith}
 use lib.IntN.{ℤ}
 use lib.Ieee.Casts.{to_signed_in}
@@ -15,16 +14,8 @@ use Rattle.wire.proofs.Records as Of
 use Rattle.symbol.specs.Symbol.{parsed}
 use Rattle.symbol.specs.declared.Symbol.{Symbol}
 use Rattle.cell.specs.declared.TextRef.{TextRef}
-use Rattle.cell.specs.declared.AsStr.{AsStr}
-use Rattle.cell.specs.declared.AsStr.TheVariants as Str
-use Rattle.cell.specs.declared.AsI64.{AsI64}
-use Rattle.cell.specs.declared.AsI64.TheVariants as I64
-use Rattle.cell.specs.declared.AsF64.{AsF64}
-use Rattle.cell.specs.declared.AsF64.TheVariants as F64
 use Rattle.checkpoint.specs.Checkpoint.{same_checkpoint}
 use Rattle.checkpoint.specs.declared.Checkpoint.TheVariants.{DiffComputed, OrderIntent, OrderSubmitted, OrderFailed, OrderFilled}
-use Rattle.checkpoint.specs.declared.Named.{Named}
-use Rattle.checkpoint.specs.declared.Named.TheVariants as K
 use Rattle.records.specs.Search.{any_where, change_first, has_text, has_id}
 use Rattle.records.specs.declared.order.Order.{Order}
 use Rattle.records.proofs.Orders.{RefFits, nothing}
@@ -34,9 +25,11 @@ use Rattle.effects.proofs.CellFits.{ref_fits, limit_fits, new_fits}
 use Rattle.effects.proofs.Fits.{each_append, each_changed, client_fits, failed_fits, filled_fits}
 use Rattle.sound_state.proofs.Spelling.{Spelt, spelt_fits, unknown_spelt, parsed_spelt}
 use Rattle.sound_state.proofs.Good.{RefIn, StrIn, Good, GoodStr, TextBytes, GoodRow, GoodRows, GoodEvent}
+use Rattle.checkpoint.specs.declared.Checkpoint.{Checkpoint}
+use Rattle.std.specs.Prelude.{Option, Some, None, Float}
 
 -- ---- the changes of one order
-client_good : (n : ℕ) (a : AsStr) → GoodStr n a → (o : Order) → Good n o → Good n (with_client a o)
+client_good : (n : ℕ) (a : (Option TextRef)) → GoodStr n a → (o : Order) → Good n o → Good n (with_client a o)
 client_good n a s o g =
     record {
       symbol = g.symbol;
@@ -44,7 +37,7 @@ client_good n a s o g =
       refs = record { action = g.refs.action; client = s.within; reason = g.refs.reason };
     }
 
-failed_good : (n : ℕ) (a : AsStr) → GoodStr n a → (o : Order) → Good n o → Good n (as_failed a o)
+failed_good : (n : ℕ) (a : (Option TextRef)) → GoodStr n a → (o : Order) → Good n o → Good n (as_failed a o)
 failed_good n a s o g =
     record {
       symbol = g.symbol;
@@ -79,7 +72,7 @@ filled_good n o g =
       refs = record { action = g.refs.action; client = g.refs.client; reason = g.refs.reason };
     }
 
-new_good : (n : ℕ) (y : Symbol) (action : TextRef) (shares limit : ℤ) (client : AsStr) → Spelt y → RefFits action
+new_good : (n : ℕ) (y : Symbol) (action : TextRef) (shares limit : ℤ) (client : (Option TextRef)) → Spelt y → RefFits action
     → RefIn n action → SFits w64 shares → SFits w64 limit
     → GoodStr n client → Good n (new_order y action shares limit client)
 new_good n y action shares limit client s f a q l c =
@@ -90,16 +83,16 @@ new_good n y action shares limit client s f a q l c =
     }
 
 symbol_from_lem : (t : Option (List ℕ)) → TextBytes t → Spelt (symbol_from t)
-symbol_from_lem none b = unknown_spelt
-symbol_from_lem (some t) b = parsed_spelt t b
+symbol_from_lem None b = unknown_spelt
+symbol_from_lem (Some t) b = parsed_spelt t b
 
-pub ref_within : (n : ℕ) (a : AsStr) → StrIn n a → RefIn n (ref_or a)
-ref_within n (Str.Is r) h = h
-ref_within n Str.Nothing h = omega arith
+pub ref_within : (n : ℕ) (a : (Option TextRef)) → StrIn n a → RefIn n (ref_or a)
+ref_within n (Some r) h = h
+ref_within n None h = omega arith
 
 row_good : (n : ℕ) (r : Row) → GoodRow n r → Good n (order_of_row r)
 row_good n r g =
-    new_good n (symbol_from r.symbol) (ref_or r.action) (whole_or r.amount) (limit_or r.price) Str.Nothing (symbol_from_lem r.symbol g.symbol)
+    new_good n (symbol_from r.symbol) (ref_or r.action) (whole_or r.amount) (limit_or r.price) None (symbol_from_lem r.symbol g.symbol)
     (ref_fits r.action g.action.fits) (ref_within n r.action g.action.within) g.amount (limit_fits r.price)
     (record { fits = nothing; within = tt })
 
@@ -109,39 +102,39 @@ rows_good n (r ∷ rs) (Of.more g gs) = Of.more (row_good n r g) (rows_good n rs
 
 module _ (n : ℕ) (os : List Order) (h : Each (Good n) os) where
   diff_good : (rs : Option (List Row)) → GoodRows n rs → Each (Good n) (orders_from rs os)
-  diff_good none g = h
-  diff_good (some rs) g = rows_good n rs g
+  diff_good None g = h
+  diff_good (Some rs) g = rows_good n rs g
 
-  intent_good : (t : Option (List ℕ)) (a : AsStr) (q : AsI64) (x : AsF64) (client : AsStr) → TextBytes t → GoodStr n a → SFits w64 (whole_or q) → GoodStr n client
+  intent_good : (t : Option (List ℕ)) (a : (Option TextRef)) (q : (Option ℤ)) (x : (Option Float)) (client : (Option TextRef)) → TextBytes t → GoodStr n a → SFits w64 (whole_or q) → GoodStr n client
       → Each (Good n) (intent_by t a q x client os)
   unfolding intended
-  intent_good none a q x client b ga gq gc = h
-  intent_good (some t) Str.Nothing q x client b ga gq gc = h
-  intent_good (some t) (Str.Is a) I64.Nothing x client b ga gq gc = h
-  intent_good (some t) (Str.Is a) (I64.Is q) F64.Nothing client b ga gq gc = h
-  intent_good (some t) (Str.Is a) (I64.Is q) (F64.Is x) client b ga gq gc = by (any_where (has_text t) os)
+  intent_good None a q x client b ga gq gc = h
+  intent_good (Some t) None q x client b ga gq gc = h
+  intent_good (Some t) (Some a) None x client b ga gq gc = h
+  intent_good (Some t) (Some a) (Some q) None client b ga gq gc = h
+  intent_good (Some t) (Some a) (Some q) (Some x) client b ga gq gc = by (any_where (has_text t) os)
     where
       fresh : Good n (new_order (symbol_or (parsed t)) a q (limit_of x) client)
       fresh =
-          new_good n (symbol_or (parsed t)) a q (limit_of x) client (parsed_spelt t b) (ref_fits (Str.Is a) ga.fits) ga.within gq
+          new_good n (symbol_or (parsed t)) a q (limit_of x) client (parsed_spelt t b) (ref_fits (Some a) ga.fits) ga.within gq
           (record { sfits = to_signed_in 63 x }) gc
 
       by : (v : Bool) → Each (Good n) (cond v (change_first (has_text t) (with_client client) os) (os ++ (new_order (symbol_or (parsed t)) a q (limit_of x) client ∷ [])))
       by true = each_changed (has_text t) (with_client client) (client_good n client gc) os h
       by false = each_append os (new_order (symbol_or (parsed t)) a q (limit_of x) client) h fresh
 
-  failed_all : (t : Option (List ℕ)) (a : AsStr) → GoodStr n a → Each (Good n) (failed_by t a os)
-  failed_all none a g = h
-  failed_all (some t) a g = each_changed (has_text t) (as_failed a) (failed_good n a g) os h
+  failed_all : (t : Option (List ℕ)) (a : (Option TextRef)) → GoodStr n a → Each (Good n) (failed_by t a os)
+  failed_all None a g = h
+  failed_all (Some t) a g = each_changed (has_text t) (as_failed a) (failed_good n a g) os h
 
-  submitted_all : (id : AsI64) (t : Option (List ℕ)) → Each (Good n) (submitted_by id t os)
-  submitted_all I64.Nothing t = h
-  submitted_all (I64.Is z) none = h
-  submitted_all (I64.Is z) (some t) = each_changed (has_text t) (as_submitted z) (submitted_good n z) os h
+  submitted_all : (id : (Option ℤ)) (t : Option (List ℕ)) → Each (Good n) (submitted_by id t os)
+  submitted_all None t = h
+  submitted_all (Some z) None = h
+  submitted_all (Some z) (Some t) = each_changed (has_text t) (as_submitted z) (submitted_good n z) os h
 
-  filled_all : (id : AsI64) → Each (Good n) (filled_by id os)
-  filled_all I64.Nothing = h
-  filled_all (I64.Is z) = each_changed (has_id z) as_filled (filled_good n) os h
+  filled_all : (id : (Option ℤ)) → Each (Good n) (filled_by id os)
+  filled_all None = h
+  filled_all (Some z) = each_changed (has_id z) as_filled (filled_good n) os h
 
   pub orders_step_lem : (e : Event) → GoodEvent n e → Each (Good n) (orders_step e os)
   unfolding orders_by orders_at
@@ -158,8 +151,8 @@ module _ (n : ℕ) (os : List Order) (h : Each (Good n) os) where
       by false false false false true = filled_all e.id
       by false false false false false = h
 
-      named : (k : Named) → Each (Good n) (orders_by k e os)
-      named K.Nothing = h
-      named (K.Is k) =
+      named : (k : (Option Checkpoint)) → Each (Good n) (orders_by k e os)
+      named None = h
+      named (Some k) =
           by (same_checkpoint k DiffComputed) (same_checkpoint k OrderIntent) (same_checkpoint k OrderFailed)
           (same_checkpoint k OrderSubmitted) (same_checkpoint k OrderFilled)

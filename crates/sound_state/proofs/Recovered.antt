@@ -6,11 +6,8 @@ use mathlib.Core.Path.{◌≡◌, refl, ap}
 use mathlib.Core.List.{List, [], ◌∷◌}
 use lib.IntN.{ℤ, pos}
 use Rattle.wire.specs.Table.{encoded}
-use Rattle.wire.specs.declared.layout.Layout.TheVariants as L
 use Rattle.wire.proofs.Written.{Bytes}
 use Rattle.book.specs.Layout.{book_layout, text_length}
-use Rattle.checkpoint.specs.declared.Named.{Named}
-use Rattle.checkpoint.specs.declared.Named.TheVariants as K
 use Rattle.records.specs.Record.{order_bytes, orders_in, orders_layout, position_bytes, positions_in, positions_layout}
 use Rattle.records.specs.declared.order.Order.{Order}
 use Rattle.records.specs.declared.position.Position.{Position}
@@ -25,6 +22,8 @@ use Rattle.sound_state.proofs.Tables.{each_map}
 use Rattle.sound_state.proofs.Spelling.{spelt_fits, spelt_field, spelt_wide}
 use Rattle.sound_state.proofs.Good.{Good, GoodPosition}
 use Rattle.sound_state.proofs.GoodBook.{state_good}
+use Rattle.checkpoint.specs.declared.Checkpoint.{Checkpoint}
+use Rattle.std.specs.Prelude.{Some, None, Ok, Option}
 
 -- ---- records
 pub good_passes : (n : ℕ) (o : Order) → Good n o → OrderPasses o
@@ -37,15 +36,15 @@ position_fits p g =
 position_good : (p : Position) → GoodPosition p → PositionPasses p
 position_good p g = record { fits = position_fits p g; field = spelt_wide p.symbol g.symbol }
 
-module _ (log : List ℕ) (time : ℤ) (b : Bytes log) (s : book_layout log ≡ L.Sound) where
-  pub recovered_orders_sound : orders_layout (encoded order_bytes (state_of log time).orders) ≡ L.Sound
+module _ (log : List ℕ) (time : ℤ) (b : Bytes log) (s : book_layout log ≡ (Ok tt)) where
+  pub recovered_orders_sound : orders_layout (encoded order_bytes (state_of log time).orders) ≡ (Ok tt)
   recovered_orders_sound =
       let os = (state_of log time).orders in orders_sound os (each_map os (good_passes (text_length log)) (state_good log time b s).orders)
 
   pub recovered_orders_in : orders_in (encoded order_bytes (state_of log time).orders) ≡ (state_of log time).orders
   recovered_orders_in = let os = (state_of log time).orders in orders_in_lem os (each_map os (λ o g. g.fits) (state_good log time b s).orders)
 
-  pub recovered_positions_sound : positions_layout (encoded position_bytes (state_of log time).positions) ≡ L.Sound
+  pub recovered_positions_sound : positions_layout (encoded position_bytes (state_of log time).positions) ≡ (Ok tt)
   recovered_positions_sound =
       let ps = (state_of log time).positions in positions_sound ps (each_map ps position_good (state_good log time b s).positions)
 
@@ -73,10 +72,10 @@ pub record ButTime (a b : State) : Type 0 where
   pub orders : a.orders ≡ b.orders
   pub positions : a.positions ≡ b.positions
 
-marks_by_lem : (k : Named) (e : Event) (m n : Marks) → timeless m ≡ timeless n → timeless (marks_by k e m) ≡ timeless (marks_by k e n)
+marks_by_lem : (k : (Option Checkpoint)) (e : Event) (m n : Marks) → timeless m ≡ timeless n → timeless (marks_by k e m) ≡ timeless (marks_by k e n)
 unfolding marks_by marks_at
-marks_by_lem K.Nothing e m n h = h
-marks_by_lem (K.Is k) e m n h = ap (λ (x : Marks). timeless (marks_at k e.number e.time e.equity e.success x)) h
+marks_by_lem None e m n h = h
+marks_by_lem (Some k) e m n h = ap (λ (x : Marks). timeless (marks_at k e.number e.time e.equity e.success x)) h
 
 pub step_but_time : (e : Event) (a b : State) → ButTime a b → ButTime (step e a) (step e b)
 step_but_time e a b h =

@@ -14,13 +14,10 @@ use mir.Val.{of_z}
 use Rattle.wire.specs.Le.{le, bytes_of}
 use Rattle.wire.specs.Table.{encoded}
 use Rattle.wire.specs.Layout.{sound_if}
-use Rattle.wire.specs.declared.layout.Layout.TheVariants as L
 use Rattle.wire.proofs.Written.{Bytes, le_bytes_of}
 use Rattle.wire.proofs.Records.{Each}
 use Rattle.symbol.specs.Symbol.{field_bytes}
 use Rattle.cell.specs.declared.TextRef.{TextRef}
-use Rattle.cell.specs.declared.AsStr.{AsStr}
-use Rattle.cell.specs.declared.AsStr.TheVariants as Str
 use Rattle.book.specs.Layout.{book_layout, text_length}
 use Rattle.book.specs.Event.{text_of}
 use Rattle.records.specs.Record.{flags_of, ref_bytes, str_bytes, order_bytes, position_bytes}
@@ -31,12 +28,12 @@ use Rattle.effects.specs.Step.{ref_or}
 use Rattle.effects.proofs.CellFits.{ref_fits}
 use Rattle.recovery.specs.Recover.{state_of}
 use Rattle.state.specs.State.{ref_in, refs_ok, refs_layout, state_layout, same_state, states_equal}
-use Rattle.state.specs.declared.Equality.TheVariants as E
 use Rattle.sound_state.proofs.Tables.{and_both}
 use Rattle.sound_state.proofs.Good.{RefIn, Good}
 use Rattle.sound_state.proofs.GoodOrders.{ref_within}
 use Rattle.sound_state.proofs.GoodBook.{state_good}
 use Rattle.sound_state.proofs.Recovered.{recovered_orders_sound, recovered_orders_in, recovered_positions_sound, recovered_positions_in}
+use Rattle.std.specs.Prelude.{Some, None, Ok, Option}
 
 -- ---- the references of an order that was written lie within the book's text
 unfoldable shape : Order → TextRef → TextRef → List ℕ
@@ -44,9 +41,9 @@ shape o c r =
     field_bytes o.symbol ++ bytes_of 1 (flags_of o) ++ bytes_of 2 0 ++ bytes_of 4 (of_z w32 o.id) ++ bytes_of 8 (of_z w64 o.shares)
     ++ bytes_of 8 (of_z w64 o.limit) ++ ref_bytes o.action ++ ref_bytes c ++ ref_bytes r ++ bytes_of 8 0
 
-str_shape : (a : AsStr) → str_bytes a ≡ ref_bytes (ref_or a)
-str_shape (Str.Is r) = refl
-str_shape Str.Nothing = refl
+str_shape : (a : (Option TextRef)) → str_bytes a ≡ ref_bytes (ref_or a)
+str_shape (Some r) = refl
+str_shape None = refl
 
 order_shape : (o : Order) (t : List ℕ) → order_bytes o ++ t ≡ shape o (ref_or o.client) (ref_or o.reason) ++ t
 unfolding order_bytes shape
@@ -79,13 +76,13 @@ order_refs n o t g =
     (client_in o c r t n (ref_fits o.client g.fits.client) (ref_within n o.client g.refs.client)))
     (reason_in o c r t n (ref_fits o.reason g.fits.reason) (ref_within n o.reason g.refs.reason)))
 
-refs_sound : (n : ℕ) (os : List Order) → Each (Good n) os → refs_layout n (encoded order_bytes os) ≡ L.Sound
+refs_sound : (n : ℕ) (os : List Order) → Each (Good n) os → refs_layout n (encoded order_bytes os) ≡ (Ok tt)
 refs_sound n os g =
     ap sound_if (table_pass order_bytes (refs_ok n) 64 order_size (Good n) (order_refs n) os g (omega arith) (omega arith))
 
 -- ---- a recovered state, with its book, passes
-pub state_sound : (log : List ℕ) (time : ℤ) → Bytes log → book_layout log ≡ L.Sound
-    → state_layout log (encoded order_bytes (state_of log time).orders) (encoded position_bytes (state_of log time).positions) ≡ L.Sound
+pub state_sound : (log : List ℕ) (time : ℤ) → Bytes log → book_layout log ≡ (Ok tt)
+    → state_layout log (encoded order_bytes (state_of log time).orders) (encoded position_bytes (state_of log time).positions) ≡ (Ok tt)
 unfolding state_layout
 state_sound log time b s =
     rw (
@@ -96,10 +93,10 @@ state_sound log time b s =
     )
 
 -- ---- so the entry compares the two states
-pub states_compared : (a b : List ℕ) (s t : ℤ) → Bytes a → Bytes b → book_layout a ≡ L.Sound → book_layout b ≡ L.Sound
+pub states_compared : (a b : List ℕ) (s t : ℤ) → Bytes a → Bytes b → book_layout a ≡ (Ok tt) → book_layout b ≡ (Ok tt)
     → states_equal a (state_of a s).marks (encoded order_bytes (state_of a s).orders) (encoded position_bytes (state_of a s).positions)
     b (state_of b t).marks (encoded order_bytes (state_of b t).orders) (encoded position_bytes (state_of b t).positions)
-    ≡ E.Is (same_state (text_of a) (text_of b) (state_of a s).marks (state_of b t).marks (state_of a s).orders (state_of b t).orders
+    ≡ Ok (same_state (text_of a) (text_of b) (state_of a s).marks (state_of b t).marks (state_of a s).orders (state_of b t).orders
     (state_of a s).positions (state_of b t).positions)
 unfolding states_equal
 states_compared a b s t ba bb sa sb =

@@ -10,7 +10,6 @@ use lib.ListN.{length, take, drop, length-drop, take-append-drop}
 use lib.Seq.{drop-drop, length-take-le}
 use Rattle.wire.specs.Le.{le}
 use Rattle.wire.specs.Table.{every}
-use Rattle.wire.specs.declared.layout.Layout.TheVariants as L
 use Rattle.wire.proofs.Bools.{and_left, and_right}
 use Rattle.wire.proofs.Records.{length_records}
 use Rattle.wire.proofs.Table.{every_at}
@@ -18,6 +17,7 @@ use Rattle.book.specs.Layout.{cell_ok, row_cell_ok, row_ok, event_ok, event_coun
 use Rattle.book.specs.Event.{events_in, rows_in, text_of}
 use Rattle.book.proofs.Sound.{event_cell, sound_counts, laid_size}
 use Rattle.effects.specs.Event.{event_of, events_of}
+use Rattle.std.specs.Prelude.{Ok}
 
 -- ---- a sound book's tables
 abbrev pub event_bytes : List ℕ → List ℕ
@@ -56,10 +56,10 @@ laid_parts s h =
       row_split = sym (take-append-drop (64 * m) (rows_in s)) ∙ ap (λ (l : List ℕ). row_bytes s ++ l) (drop-drop (64 * m) (24 + 240 * n) s);
     }
 
-pub laid : (s : List ℕ) → book_layout s ≡ L.Sound → Laid s
+pub laid : (s : List ℕ) → book_layout s ≡ (Ok tt) → Laid s
 laid s h = laid_parts s (sound_counts s h).parts
 
-pub text_length_lem : (s : List ℕ) → book_layout s ≡ L.Sound → length (text_of s) ≡ text_length s
+pub text_length_lem : (s : List ℕ) → book_layout s ≡ (Ok tt) → length (text_of s) ≡ text_length s
 text_length_lem s h = (laid s h).text
 
 pub events_count : (s : List ℕ) → length (events_of s) ≡ event_count s

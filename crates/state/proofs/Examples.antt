@@ -9,26 +9,23 @@ use lib.ListN.{replicate}
 use Rattle.wire.specs.Le.{le, bytes_of, same_bytes}
 use Rattle.wire.specs.Table.{every, records}
 use Rattle.symbol.specs.Symbol.{all_of, parses, field_ok, symbol_of}
-use Rattle.cell.specs.declared.AsStr.{AsStr}
-use Rattle.cell.specs.declared.AsStr.TheVariants as Str
 use Rattle.book.specs.Layout.{book_layout, parts_ok, tables_ok, offsets_ok}
-use Rattle.book.specs.declared.event.SequenceNumber.{SequenceNumber}
-use Rattle.book.specs.declared.event.SequenceNumber.TheVariants as N
 use Rattle.checkpoint.specs.declared.Checkpoint.TheVariants.{RunStarted}
 use Rattle.records.specs.Record.{order_bytes, order_of, position_of, order_ok, table_ok}
 use Rattle.records.specs.declared.order.Order.{Order}
 use Rattle.marks.specs.Marks.{first_marks, no_pair}
 use Rattle.marks.specs.declared.Marks.{Marks}
 use Rattle.state.specs.State.{same_pair, same_marks, same_texts, same_order, same_position, same_lists, same_state, refs_ok, state_layout, states_equal}
-use Rattle.state.specs.declared.Equality.{Equality}
-use Rattle.state.specs.declared.Equality.TheVariants.{Is, Oversize, Broken}
+use Rattle.cell.specs.declared.TextRef.{TextRef}
+use Rattle.std.specs.Prelude.{Some, None, Ok, Err, Option, Result, Bool}
+use Rattle.wire.specs.declared.refusal.Refusal.{Refusal}
 
 -- a book without events or rows, with the text `xyx`
 small : List ℕ
 small = bytes_of 4 0 ++ bytes_of 4 24 ++ bytes_of 4 0 ++ bytes_of 4 24 ++ bytes_of 4 3 ++ bytes_of 4 24 ++ (120 ∷ 121 ∷ 120 ∷ [])
 
 -- an order of `AB` with this action, this id and this reason
-sample : ℕ → AsStr → AsStr → Order
+sample : ℕ → Option TextRef → Option TextRef → Order
 sample first client reason =
     record {
       symbol = symbol_of (65 ∷ 66 ∷ []);
@@ -44,7 +41,7 @@ sample first client reason =
     }
 
 -- With these orders, and marks of these times, and nothing else:
-answer : List ℕ → List ℕ → ℕ → Equality
+answer : List ℕ → List ℕ → ℕ → Result Bool Refusal
 unfolding states_equal
 answer os ps time = states_equal small (first_marks (pos 0)) os [] small (first_marks (pos time)) ps []
 
@@ -53,18 +50,18 @@ answer os ps time = states_equal small (first_marks (pos 0)) os [] small (first_
 -- lists of different lengths are unequal and not refused; a reference past the text is refused by 2;
 -- states that differ in time only are equal
 examples :
-    (answer (order_bytes (sample 0 Str.Nothing Str.Nothing)) (order_bytes (sample 0 (Str.Is (record { first = 3; len = 0 })) Str.Nothing)) 0 ≡ Is true)
-    × (answer (order_bytes (sample 0 Str.Nothing Str.Nothing)) (order_bytes (sample 0 Str.Nothing (Str.Is (record { first = 0; len = 0 })))) 0 ≡ Is true)
-    × (answer (order_bytes (sample 0 Str.Nothing Str.Nothing)) (order_bytes (sample 2 Str.Nothing Str.Nothing)) 0 ≡ Is true)
-    × (answer (order_bytes (sample 0 Str.Nothing Str.Nothing)) (order_bytes (sample 1 Str.Nothing Str.Nothing)) 0 ≡ Is false)
-    × (answer [] (order_bytes (sample 0 Str.Nothing Str.Nothing)) 0 ≡ Is false)
-    × (answer [] (order_bytes (sample 3 Str.Nothing Str.Nothing)) 0 ≡ Broken)
-    × (answer [] [] 7 ≡ Is true)
+    (answer (order_bytes (sample 0 None None)) (order_bytes (sample 0 (Some (record { first = 3; len = 0 })) None)) 0 ≡ Ok true)
+    × (answer (order_bytes (sample 0 None None)) (order_bytes (sample 0 None (Some (record { first = 0; len = 0 })))) 0 ≡ Ok true)
+    × (answer (order_bytes (sample 0 None None)) (order_bytes (sample 2 None None)) 0 ≡ Ok true)
+    × (answer (order_bytes (sample 0 None None)) (order_bytes (sample 1 None None)) 0 ≡ Ok false)
+    × (answer [] (order_bytes (sample 0 None None)) 0 ≡ Ok false)
+    × (answer [] (order_bytes (sample 3 None None)) 0 ≡ (Err Refusal.Broken))
+    × (answer [] [] 7 ≡ Ok true)
 unfolding answer small sample states_equal state_layout book_layout parts_ok tables_ok offsets_ok every table_ok order_ok field_ok parses all_of refs_ok order_bytes bytes_of le order_of position_of records same_state same_marks same_pair same_lists same_order same_texts same_bytes same_position
 examples = (refl, refl, refl, refl, refl, refl, refl)
 
 -- a last number of none differs from 0
-resulted : SequenceNumber → Marks
+resulted : Option ℕ → Marks
 resulted n =
     record {
       checkpoint = RunStarted;
@@ -73,17 +70,17 @@ resulted n =
       equity = pos 0;
       completed = false;
       positions = no_pair;
-      quotes = record { intent = false; result = false; intended = N.Nothing; resulted = n };
+      quotes = record { intent = false; result = false; intended = None; resulted = n };
       account = no_pair;
       cancel = no_pair;
       cancelfailed = false;
     }
 
-none_is_not_zero : same_marks (resulted N.Nothing) (resulted (N.Is 0)) ≡ false
+none_is_not_zero : same_marks (resulted None) (resulted (Some 0)) ≡ false
 unfolding same_marks same_pair resulted
 none_is_not_zero = refl
 
 -- 1 of the second book comes before 2 of the first: 4,097 events
-many_events : states_equal [] (first_marks (pos 0)) [] [] (bytes_of 4 4097 ++ replicate 20 0) (first_marks (pos 0)) [] [] ≡ Oversize
+many_events : states_equal [] (first_marks (pos 0)) [] [] (bytes_of 4 4097 ++ replicate 20 0) (first_marks (pos 0)) [] [] ≡ (Err Refusal.Oversize)
 unfolding states_equal state_layout book_layout parts_ok tables_ok offsets_ok every table_ok refs_ok bytes_of le order_of position_of records same_state same_marks same_pair same_lists same_order same_position
 many_events = refl

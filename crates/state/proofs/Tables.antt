@@ -1,26 +1,34 @@
--- Two tables compared record by record, as a loop takes them: up to place i they agree, so what is left of both decides.
+-- Two tables compared record by record: what `n == m && (0..n).all(..)` answers. And the flags that equality reads.
 -- Assumes nothing.
-use Prim.Native.Nat.{ℕ, zero, suc, ◌+◌, ◌*◌, ◌%◌, ◌≤◌, ◌<◌}
-use mathlib.Core.Path.{◌≡◌, refl, ap}
+use Prim.Native.Nat.{ℕ, zero, suc, ◌+◌, ◌*◌, ◌%◌, ◌≤◌}
+use mathlib.Core.Path.{◌≡◌, refl, sym, ap, ◌∙◌}
 use mathlib.Core.List.{List}
 use mathlib.Core.Bool.{Bool, true, false}
+use native.Mathlib.Nat.{sub-zero, mul-zero}
 use native.Mathlib.Omega.{arith}
+use borrow.Author.Tests.{ne_eqb}
 use lib.Dec.{eqb}
-use lib.IntN.{ℤ}
 use lib.ListN.{drop}
-use mir.Syntax.{w32, w64}
-use mir.Val.{SFits, to_z, of_z}
-use mir.ValLaws.{to_z-of_z}
+use denote.Param.Members.{Mut}
+use Rattle.std.specs.declared.ops.Range.{Range}
+use Rattle.std.specs.declared.option.Option.{Option}
+use Rattle.std.specs.Iterator.{YieldsThen}
+use Rattle.std.specs.List.{FoldsTo, list_all, range_with_len}
+use Rattle.std.specs.Fn.{Called}
+use Rattle.std.specs.Option.{MatchOption}
+use Rattle.std.proofs.iter.Yields.{nat_range_steps}
+use Rattle.std.proofs.lemmas.Iterator.{YieldsList-from_range}
+use Rattle.std.proofs.lemmas.Iterator.Search.{all_from_yields_List}
 use Rattle.wire.specs.Table.{records}
 use Rattle.wire.proofs.Bools.{and_false}
+use Rattle.wire.proofs.Chains.{drop_place}
 use Rattle.records.specs.Record.{flag, flags_of, present}
 use Rattle.records.specs.declared.order.Order.{Order}
-use Rattle.records.proofs.Walk.{rest, rest_all, rest_next, rest_none}
-use Rattle.state.specs.State.{same_int, same_lists, read_flags}
+use Rattle.state.specs.State.{same_lists, read_flags}
 
 module _ {A : Type 0} (f : A → A → Bool) (g : List ℕ → A) (w : ℕ) where
   -- lists of different lengths differ
-  pub lists_unlike : (n m : ℕ) (a b : List ℕ) → (n ≡ m → ⊥) → same_lists f (records g w n a) (records g w m b) ≡ false
+  lists_unlike : (n m : ℕ) (a b : List ℕ) → (n ≡ m → ⊥) → same_lists f (records g w n a) (records g w m b) ≡ false
   unfolding same_lists records
   lists_unlike zero zero a b h = absurd (h refl)
   lists_unlike zero (suc m) a b h = refl
@@ -28,32 +36,26 @@ module _ {A : Type 0} (f : A → A → Bool) (g : List ℕ → A) (w : ℕ) wher
   lists_unlike (suc n) (suc m) a b h =
       rw (lists_unlike n m (drop w a) (drop w b) (λ e. h (ap suc e))) (and_false (f (g a) (g b)))
 
-  module _ (n : ℕ) (a b : List ℕ) where
-    -- from place i on
-    abbrev pub agree : ℕ → Bool
-    agree i = same_lists f (rest g w n a i) (rest g w n b i)
+  pub lists_differ : (n m : ℕ) (a b : List ℕ) → (n ≡ m → ⊥) → eqb n m ≡ same_lists f (records g w n a) (records g w m b)
+  lists_differ n m a b h = ne_eqb n m h ∙ sym (lists_unlike n m a b h)
 
-    pub lists_all : (m : ℕ) → n ≡ m → same_lists f (records g w n a) (records g w m b) ≡ agree 0
-    lists_all m e = rw (← e, ← rest_all g w n a, ← rest_all g w n b)
+  module _ (s t : List ℕ) where
+    lists_from : (n a : ℕ) → same_lists f (records g w n (drop (w * a) s)) (records g w n (drop (w * a) t))
+        ≡ list_all (λ i. f (g (drop (w * i) s)) (g (drop (w * i) t))) (range_with_len a n)
+    unfolding same_lists records
+    lists_from zero a = refl
+    lists_from (suc n) a = rw (drop_place w a s, drop_place w a t, lists_from n (a + 1))
 
-    pub lists_differ : (i : ℕ) → i < n → f (g (drop (w * i) a)) (g (drop (w * i) b)) ≡ false → agree i ≡ false
-    unfolding same_lists
-    lists_differ i h e = rw (rest_next g w n a i h, rest_next g w n b i h, e)
-
-    pub lists_on : (i : ℕ) → i < n → f (g (drop (w * i) a)) (g (drop (w * i) b)) ≡ true → agree i ≡ agree (i + 1)
-    unfolding same_lists
-    lists_on i h e = rw (rest_next g w n a i h, rest_next g w n b i h, e)
-
-    pub lists_end : (i : ℕ) → n ≤ i → agree i ≡ true
-    unfolding same_lists
-    lists_end i h = rw (rest_none g w n a i h, rest_none g w n b i h)
-
--- an i32 fits an i64, and is compared as one
-pub fits_wide : (x : ℤ) → SFits w32 x → SFits w64 (to_z w32 (of_z w32 x))
-fits_wide x f = rw (to_z-of_z w32 x f) (record { sfits = omega (arith, f.sfits) })
-
-pub same_wide : (x y : ℤ) → SFits w32 x → SFits w32 y → eqb (of_z w64 (to_z w32 (of_z w32 x))) (of_z w64 (to_z w32 (of_z w32 y))) ≡ same_int x y
-same_wide x y f g = rw (to_z-of_z w32 x f, to_z-of_z w32 y g)
+    -- `(0..n).all(|i| ..)`, by its clause `ran` and what a call of the closure answers
+    pub lists_from_all : {F : Type 0} {m : Mut F (ℕ × Unit {0}) Bool} {n k : ℕ} {u : Range ℕ} {q : F} {r : Bool} → n ≡ k
+        → (xs : List ℕ) × (o : Option ℕ) × (j : F) × YieldsThen nat_range_steps (record { start = 0; end = n }) xs o u
+        × FoldsTo (λ p x v. Called m p (x, tt) true v) q xs j × MatchOption o (r ≡ true) (λ x. (r ≡ false) × ((h : F) × Called m j (x, tt) false h))
+        → ((i : ℕ) (b : Bool) (v : F) → Called m q (i, tt) b v → (v ≡ q) × (b ≡ f (g (drop (w * i) s)) (g (drop (w * i) t))))
+        → r ≡ same_lists f (records g w n s) (records g w k t)
+    lists_from_all {n = n} {u = u} {q = q} {r = r} e ran test =
+        all_from_yields_List (λ i. f (g (drop (w * i) s)) (g (drop (w * i) t))) u q r ran (YieldsList-from_range 0 n n refl (sub-zero n)) test
+        ∙ sym (rw mul-zero at (lists_from n 0))
+        ∙ ap (λ (l : ℕ). same_lists f (records g w n s) (records g w l t)) e
 
 -- the flags below 8 are those that equality reads
 low_flags : (n : ℕ) (d e : Bool) → n ≤ 7 → (n + flag d 8 + flag e 16) % 8 ≡ n

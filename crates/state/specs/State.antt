@@ -5,35 +5,31 @@ use Rattle.std.specs.Int.{w64}
 use Rattle.std.proofs.Common.{of_z}
 use Rattle.wire.specs.Le.{le, same_bytes}
 use Rattle.wire.specs.Layout.{both_of, sound_if}
-use Rattle.wire.specs.declared.layout.Layout.{Layout}
-use Rattle.wire.specs.declared.layout.Layout.TheVariants as L
 use Rattle.symbol.specs.Symbol.{same_symbol}
 use Rattle.cell.specs.Cell.{text_in}
-use Rattle.cell.specs.declared.AsStr.{AsStr}
-use Rattle.cell.specs.declared.AsStr.TheVariants as Str
 use Rattle.book.specs.Layout.{book_layout, text_length}
 use Rattle.book.specs.Event.{text_of}
-use Rattle.book.specs.declared.event.SequenceNumber.{SequenceNumber}
-use Rattle.book.specs.declared.event.SequenceNumber.TheVariants as N
 use Rattle.checkpoint.specs.Checkpoint.{same_checkpoint}
 use Rattle.records.specs.Record.{flag, orders_in, positions_in, orders_layout, positions_layout, table_ok}
 use Rattle.records.specs.declared.order.Order.{Order}
 use Rattle.records.specs.declared.position.Position.{Position}
 use Rattle.marks.specs.declared.Marks.{Marks}
 use Rattle.marks.specs.declared.Pair.{Pair}
-use Rattle.state.specs.declared.Equality.{Equality}
-use Rattle.state.specs.declared.Equality.TheVariants.{Is, Oversize, Broken}
+use Rattle.std.specs.Prelude.{Some, None, Ok, Err, Option, Result}
+use Rattle.wire.specs.declared.refusal.Refusal.{Refusal}
+use Rattle.wire.specs.Layout.{Layout, refused}
+use Rattle.cell.specs.declared.TextRef.{TextRef}
 
 -- ---- marks except time; a last number of none differs from 0
 abbrev pub same_truth : Bool → Bool → Bool
 same_truth true b = b
 same_truth false b = not b
 
-abbrev pub same_number : SequenceNumber → SequenceNumber → Bool
-same_number (N.Is m) (N.Is n) = eqb m n
-same_number (N.Is m) N.Nothing = false
-same_number N.Nothing (N.Is n) = false
-same_number N.Nothing N.Nothing = true
+abbrev pub same_number : Option ℕ → Option ℕ → Bool
+same_number (Some m) (Some n) = eqb m n
+same_number (Some m) None = false
+same_number None (Some n) = false
+same_number None None = true
 
 abbrev pub same_int : ℤ → ℤ → Bool
 same_int x y = eqb (of_z w64 x) (of_z w64 y)
@@ -56,9 +52,9 @@ abbrev pub read_flags : Order → ℕ
 read_flags o = flag o.submitted 1 + flag o.filled 2 + flag o.failed 4
 
 -- a text by its bytes in the book's text, an absent one as an empty one
-abbrev pub text_or : List ℕ → AsStr → List ℕ
-text_or text (Str.Is r) = text_in text r
-text_or text Str.Nothing = []
+abbrev pub text_or : List ℕ → Option TextRef → List ℕ
+text_or text (Some r) = text_in text r
+text_or text None = []
 
 unfoldable pub same_texts : List ℕ → List ℕ → Order → Order → Bool
 same_texts s t o p =
@@ -103,19 +99,16 @@ unfolding refs_ok
 state_layout book orders positions =
     both_of (book_layout book) (both_of (orders_layout orders) (both_of (refs_layout (text_length book) orders) (positions_layout positions)))
 
-abbrev pub equal_if : Layout → Bool → Equality
-equal_if L.Sound b = Is b
-equal_if L.Oversize b = Oversize
-equal_if L.Broken b = Broken
+abbrev pub equal_if : Layout → Bool → Result Bool Refusal
+equal_if (Ok tt) b = Ok b
+equal_if (Err e) b = Err e
 
-unfoldable pub states_equal : List ℕ → Marks → List ℕ → List ℕ → List ℕ → Marks → List ℕ → List ℕ → Equality
+unfoldable pub states_equal : List ℕ → Marks → List ℕ → List ℕ → List ℕ → Marks → List ℕ → List ℕ → Result Bool Refusal
 unfolding state_layout same_state
 states_equal a m os xs b n ps ys =
     equal_if (both_of (state_layout a os xs) (state_layout b ps ys))
     (same_state (text_of a) (text_of b) m n (orders_in os) (orders_in ps) (positions_in xs) (positions_in ys))
 
 -- the refusal's number
-abbrev pub equality_number : Equality → ℕ
-equality_number (Is b) = 0
-equality_number Oversize = 1
-equality_number Broken = 2
+abbrev pub equality_number : Result Bool Refusal → ℕ
+equality_number r = refused r

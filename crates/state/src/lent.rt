@@ -1,8 +1,9 @@
 // Refusals 1 and 2 of a book and of the records that are lent with it.
-ghost use Rattle.std.specs.Prelude.{◌≡◌, drop};
+ghost use Rattle.std.specs.Prelude.{◌≡◌};
 ghost use Rattle.state.specs.State.{ref_in, refs_ok, refs_layout, state_layout};
 
-use wire::layout::Layout;
+use crate::State;
+use wire::refusal::Refusal;
 
 // Whether the reference in the first eight bytes lies within so many bytes of text.
 fn ref_in(s: &[u8], text: u32) -> bool
@@ -22,38 +23,27 @@ fn refs_ok(s: &[u8], text: u32) -> bool
         & ref_in(wire::from(s, 48), text)
 }
 
-fn refs_ok_at(s: &[u8], at: usize, text: u32) -> bool
-    ensures { result ≡ refs_ok text (drop at s.now) }
-{
-    refs_ok(wire::from(s, at), text)
-}
-
-fn check_refs(d: &[u8], text: u32) -> Layout
+// Refusal 2 of the orders by their references. `records::order::check_orders` is such a chain over the other parts of a record.
+fn check_refs(d: &[u8], text: u32) -> Result<(), Refusal>
     ensures { result ≡ refs_layout text d.now }
 {
-    if d.len() % 64 != 0 {
-        return Layout::Broken;
-    }
     let n = d.len() / 64;
-    let mut i = 0;
-    while i < n {
-        if !refs_ok_at(d, 64 * i, text) {
-            return Layout::Broken;
-        }
-        i += 1;
-    }
-    Layout::Sound
+    wire::refusal::sound_if(
+        d.len() % 64 == 0 && (0..n).all(|i| refs_ok(wire::from(d, 64 * i), text)),
+    )
 }
 
-pub fn check_state(book: &[u8], orders: &[u8], positions: &[u8]) -> Layout
-    ensures { result ≡ state_layout book.now orders.now positions.now }
-{
-    let whole = book::layout::check(book);
-    let records = records::order::check_orders(orders);
-    let refs = check_refs(orders, wire::u32_at(book, 16));
-    let held = records::position::check_positions(positions);
-    wire::layout::both(
-        whole,
-        wire::layout::both(records, wire::layout::both(refs, held)),
-    )
+impl State<'_> {
+    pub fn check(self) -> Result<(), Refusal>
+        ensures { result ≡ state_layout self.entry.book.now self.entry.orders.now self.entry.positions.now }
+    {
+        let whole = book::layout::check(self.book);
+        let records = records::order::check_orders(self.orders);
+        let refs = check_refs(self.orders, wire::u32_at(self.book, 16));
+        let held = records::position::check_positions(self.positions);
+        wire::refusal::both(
+            whole,
+            wire::refusal::both(records, wire::refusal::both(refs, held)),
+        )
+    }
 }

@@ -4,49 +4,42 @@
 #![tactic(auto)]
 
 ghost use Rattle.std.specs.Prelude.{◌≡◌};
+ghost use Rattle.book.specs.Event.{text_of};
 ghost use Rattle.records.specs.Record.{orders_in, positions_in};
 ghost use Rattle.state.specs.State.{same_state, states_equal};
 
 use marks::Marks;
-use wire::layout::Layout;
+use wire::refusal::Refusal;
 
 mod lent;
 mod lists;
 mod orders;
 mod run;
 
-// Whether the states are equal, or refusals 1 and 2.
+// A state and its book, as they are lent.
 #[derive(Clone, Copy)]
-pub enum Equality {
-    Is(bool),
-    Oversize,
-    Broken,
+struct State<'a> {
+    book: &'a [u8],
+    marks: Marks,
+    orders: &'a [u8],
+    positions: &'a [u8],
 }
 
-// Whether two states are equal, each with the text of its book: s and t, marks m and n, orders os and ps, positions xs and ys.
-fn same_state(
-    s: &[u8],
-    t: &[u8],
-    m: Marks,
-    n: Marks,
-    os: &[u8],
-    ps: &[u8],
-    xs: &[u8],
-    ys: &[u8],
-) -> bool
-    ensures { result ≡ same_state s.now t.now m n (orders_in os.now) (orders_in ps.now) (positions_in xs.now) (positions_in ys.now) }
-{
-    if !run::same_marks(m, n) {
-        return false;
+impl State<'_> {
+    // Whether two states are equal, each with the text of its book: no derive, since times are not compared, and texts by their bytes.
+    fn same(self, other: State) -> bool
+        ensures { result ≡ same_state (text_of self.entry.book.now) (text_of other.entry.book.now) self.entry.marks other.entry.marks (orders_in self.entry.orders.now) (orders_in other.entry.orders.now) (positions_in self.entry.positions.now) (positions_in other.entry.positions.now) }
+    {
+        let s = book::event::text(self.book);
+        let t = book::event::text(other.book);
+        run::same_marks(self.marks, other.marks)
+            && lists::same_orders(s, t, self.orders, other.orders)
+            && lists::same_positions(self.positions, other.positions)
     }
-    if !lists::same_orders(s, t, os, ps) {
-        return false;
-    }
-    lists::same_positions(xs, ys)
 }
 
 // Entry. Whether two recovered states are equal, each lent with its book: (book, marks, orders, positions) twice. Refusal 1 of either book,
-// then 2 of either book and of the lent records.
+// then 2 of either book and of the lent records. The parameters are those that C lends.
 pub fn states_equal(
     book_a: &[u8],
     marks_a: Marks,
@@ -56,27 +49,21 @@ pub fn states_equal(
     marks_b: Marks,
     orders_b: &[u8],
     positions_b: &[u8],
-) -> Equality
+) -> Result<bool, Refusal>
     ensures { result ≡ states_equal book_a.now marks_a orders_a.now positions_a.now book_b.now marks_b orders_b.now positions_b.now }
 {
-    let a = lent::check_state(book_a, orders_a, positions_a);
-    let b = lent::check_state(book_b, orders_b, positions_b);
-    match wire::layout::both(a, b) {
-        Layout::Sound => {
-            let s = book::event::text(book_a);
-            let t = book::event::text(book_b);
-            Equality::Is(same_state(
-                s,
-                t,
-                marks_a,
-                marks_b,
-                orders_a,
-                orders_b,
-                positions_a,
-                positions_b,
-            ))
-        }
-        Layout::Oversize => Equality::Oversize,
-        Layout::Broken => Equality::Broken,
-    }
+    let a = State {
+        book: book_a,
+        marks: marks_a,
+        orders: orders_a,
+        positions: positions_a,
+    };
+    let b = State {
+        book: book_b,
+        marks: marks_b,
+        orders: orders_b,
+        positions: positions_b,
+    };
+    wire::refusal::both(a.check(), b.check())?;
+    Ok(a.same(b))
 }

@@ -7,85 +7,49 @@
 // and at 24 the label.
 #![tactic(auto)]
 
-use marks::{Begun, Marks};
-use reader::Stepped;
+use marks::Marks;
+use reader::Reader;
 use recovery::recover;
-use recovery::recover::Recovery;
+use recovery::recover::Recovered;
 use std::io;
 use std::io::Read;
+use wire::refusal::Refusal;
 
 // How far a walk came: the marks, the last step's answer, and the number of the reader's next event.
 #[derive(Clone, Copy)]
 struct Walked {
     marks: Marks,
-    answer: Stepped,
+    answer: Result<bool, Refusal>,
     next: u32,
 }
 
-fn number(rt: &impl Print, text: &str, x: u64) -> io::Result<()> {
-    print!(rt; "{text}{x}")
-}
-
 // ---- the walk
-fn is_stepped(answer: Stepped) -> bool {
-    match answer {
-        Stepped::Is => true,
-        Stepped::Past => false,
-        Stepped::Oversize => false,
-        Stepped::Broken => false,
-    }
-}
-
 // Steps from the first event on, until a step finds no event left or is refused, and `most` at the most.
 fn walk(book: &[u8], first: Marks, most: u32) -> Walked {
     let mut marks = first;
-    let mut next: u32 = 0;
-    let mut left = most;
-    while 0 < left {
-        let on = reader::step_on(book, next, marks);
-        let answer = on.answer;
-        let after = on.marks;
-        marks = after;
-        if !is_stepped(answer) {
-            return Walked {
-                marks,
-                answer,
-                next,
-            };
+    let mut reader = Reader::new(book);
+    let mut answer = Ok(true);
+    for _ in 0..most {
+        answer = reader.step(&mut marks);
+        if answer != Ok(true) {
+            break;
         }
-        next = on.next;
-        left -= 1;
+        reader = reader.moved();
     }
     Walked {
         marks,
-        answer: Stepped::Is,
-        next,
+        answer,
+        next: reader.next,
     }
 }
 
 // ---- what is told of it
-fn refusal(answer: Stepped) -> u64 {
-    match answer {
-        Stepped::Is => 0,
-        Stepped::Past => 0,
-        Stepped::Oversize => 1,
-        Stepped::Broken => 2,
-    }
-}
-
 fn tell_words(rt: &impl Print, record: &[u8]) -> io::Result<()> {
     print!(rt; "\n ")?;
-    for i in 0..22 {
-        number(rt, " ", wire::u64_at(record, 8 * i))?;
+    for word in record.chunks_exact(8) {
+        print!(rt; " {}", wire::u64_of(word))?;
     }
     Ok(())
-}
-
-fn tell_same(rt: &impl Print, a: &[u8], b: &[u8]) -> io::Result<()> {
-    if wire::same(a, b) {
-        return print!(rt; ", marks as recovered");
-    }
-    print!(rt; ", marks NOT as recovered")
 }
 
 fn tell_marks(rt: &impl Print, walked: Marks, recovered: Marks) -> io::Result<()> {
@@ -93,47 +57,35 @@ fn tell_marks(rt: &impl Print, walked: Marks, recovered: Marks) -> io::Result<()
     let mut b = [0u8; 176];
     marks_record::put_marks(&mut a, walked);
     marks_record::put_marks(&mut b, recovered);
-    tell_same(rt, &a, &b)?;
+    let same = if a == b { "as" } else { "NOT as" };
+    print!(rt; ", marks {same} recovered")?;
     tell_words(rt, &a)
 }
 
-fn recovery_of(book: &[u8], time: i64) -> Recovery {
+fn recovery_of(book: &[u8], time: i64) -> Result<Recovered, Refusal> {
     let mut orders = [0u8; 4096];
     let mut positions = [0u8; 4096];
     recover::reconstruct_state(book, time, &mut orders, &mut positions)
 }
 
-fn tell_refused(rt: &impl Print, recovery: Recovery) -> io::Result<()> {
+fn tell_refused(rt: &impl Print, recovery: Result<Recovered, Refusal>) -> io::Result<()> {
+    print!(rt; ", recovery refused {}", cases::refusal(recovery))
+}
+
+fn tell_walk(rt: &impl Print, w: Walked, recovery: Result<Recovered, Refusal>) -> io::Result<()> {
+    print!(rt; ": steps {}, refusal {}", w.next, cases::refusal(w.answer))?;
     match recovery {
-        Recovery::Done(_) => number(rt, ", recovery refused ", 0),
-        Recovery::Oversize => number(rt, ", recovery refused ", 1),
-        Recovery::Broken => number(rt, ", recovery refused ", 2),
-        Recovery::NoRoom => number(rt, ", recovery refused ", 3),
+        Ok(r) => tell_marks(rt, w.marks, r.marks),
+        Err(_) => tell_refused(rt, recovery),
     }
-}
-
-fn tell_recovery(rt: &impl Print, walked: Marks, recovery: Recovery) -> io::Result<()> {
-    let Recovery::Done(r) = recovery else {
-        return tell_refused(rt, recovery);
-    };
-    let recovered = r.marks;
-    tell_marks(rt, walked, recovered)
-}
-
-fn tell_walk(rt: &impl Print, w: Walked, recovery: Recovery) -> io::Result<()> {
-    let answer = w.answer;
-    let marks = w.marks;
-    number(rt, ": steps ", w.next as u64)?;
-    number(rt, ", refusal ", refusal(answer))?;
-    tell_recovery(rt, marks, recovery)
 }
 
 fn tell_book(rt: &impl Print, book: &[u8], time: i64) -> io::Result<()> {
     let recovery = recovery_of(book, time);
     match Marks::new(time) {
-        Begun::Is(first) => tell_walk(rt, walk(book, first, 5000), recovery)?,
-        Begun::Broken => {
-            number(rt, ": no steps, refusal ", 2)?;
+        Ok(first) => tell_walk(rt, walk(book, first, 5000), recovery)?,
+        Err(r) => {
+            print!(rt; ": no steps, refusal {}", u32::from(r))?;
             tell_refused(rt, recovery)?;
         }
     }
@@ -141,37 +93,21 @@ fn tell_book(rt: &impl Print, book: &[u8], time: i64) -> io::Result<()> {
 }
 
 // ---- the file
-// Reads the book after its head into lent bytes and tells of it.
-fn tell_read(
-    rt: &impl Print,
-    file: &mut impl Read,
-    head: &[u8],
-    room: &mut [u8],
-) -> io::Result<()> {
+// Reads the book after its head and tells of it. Nothing is allocated: a fixed buffer, and what of it counts.
+fn read_book(rt: &impl Print, file: &mut impl Read, head: &[u8]) -> io::Result<()> {
+    let mut room = [0u8; 65536];
     let n = (wire::u16_at(head, 8) as usize).min(room.len());
     cases::read_full(file, &mut room[..n])?;
     rt.write_all(wire::part(head, 24, wire::u64_of(head) as usize))?;
-    tell_book(rt, wire::part(room, 0, n), wire::i64_at(head, 16))
-}
-
-// Reads a book and tells of it; false where none is left.
-fn read_book(rt: &impl Print, file: &mut impl Read) -> io::Result<bool> {
-    let mut head = [0u8; 64];
-    if cases::read_full(file, &mut head)? != 64 {
-        return Ok(false);
-    }
-    let mut room = [0u8; 65536];
-    tell_read(rt, file, &head, &mut room)?;
-    Ok(true)
+    tell_book(rt, &room[..n], wire::i64_at(head, 16))
 }
 
 fn read_books(rt: &impl Print, file: &mut impl Read, most: u32) -> io::Result<()> {
-    let mut left = most;
-    while 0 < left {
-        if !read_book(rt, file)? {
-            return Ok(());
-        }
-        left -= 1;
+    for _ in 0..most {
+        let Some(head) = cases::next::<64, _>(file)? else {
+            break;
+        };
+        read_book(rt, file, &head)?;
     }
     Ok(())
 }

@@ -1,23 +1,23 @@
 -- Texts and the numbers that their bytes make: what the loop of `Symbol::try_new` asks, and that comparing numbers and lengths is comparing texts.
 -- Assumes nothing.
-use Prim.Native.Nat.{ℕ, zero, suc, ◌+◌, ◌*◌, ◌^◌, ◌-◌, ◌%◌, ◌/◌, ◌≤◌, ◌<◌}
+use Prim.Native.Nat.{ℕ, zero, suc, ◌+◌, ◌*◌, ◌^◌, ◌%◌, ◌/◌, ◌≤◌, ◌<◌}
 use mathlib.Core.Path.{◌≡◌, refl, sym, ap, ◌∙◌}
 use mathlib.Core.Bool.{Bool, true, false, ◌&&◌, ◌||◌}
-use mathlib.Core.List.{List, [], ◌∷◌}
+use mathlib.Core.List.{List, [], ◌∷◌, ◌++◌, append_assoc, append-nil}
 use native.Mathlib.Nat.{not-suc-le-zero, le_of_suc-le-suc, sub-zero, suc-sub-suc}
 use native.Mathlib.Omega.{arith}
 use lib.Dec.{eqb, leb}
-use borrow.Author.Tests.{le-leb, lt-leb, leb-true, eqb-true, eqb-false, eq-eqb, ne_eqb}
+use borrow.Author.Tests.{leb-true, eqb-true, eqb-false, eq-eqb, ne_eqb}
 use mir.Syntax.{w8}
 use mir.Val.{Fits}
-use lib.ListN.{length, take, drop, get_or, length-drop}
-use lib.Seq.{drop-cons}
+use lib.ListN.{length, take, drop, get_or, length-drop, length-append}
+use lib.Seq.{drop-length, drop_at}
 use Rattle.wire.specs.Le.{le, bytes_of, same_bytes}
 use Rattle.wire.specs.Table.{padded}
 pub use Rattle.wire.proofs.Bools.{and_left, and_right}
 use Rattle.wire.proofs.Bools.{and_false, and-true}
 use Rattle.wire.proofs.Records.{padded_none}
-use Rattle.wire.proofs.Numbers.{le_nil, le_at}
+use Rattle.wire.proofs.Numbers.{le_nil}
 use Rattle.wire.proofs.Written.{Bytes, none, more, le_lt, same_unlike}
 use Rattle.symbol.specs.Symbol.{symbol_width, symbol_byte, all_of, parses, symbol_of, symbol_is, same_symbol}
 
@@ -29,16 +29,6 @@ or_false false = refl
 pub and_assoc : (a b c : Bool) → (a && (b && c)) ≡ (a && b && c)
 and_assoc true b c = refl
 and_assoc false b c = refl
-
--- ---- the bytes of symbols: a letter is no digit, and neither is '-' or '.'
-pub high_byte : (b : ℕ) → 65 ≤ b → leb b 90 ≡ symbol_byte b
-high_byte b h =
-    rw (le-leb 65 b h, lt-leb b 57 (omega arith), and_false (leb 48 b), ne_eqb b 45 (λ e. omega arith), ne_eqb b 46 (λ e. omega arith))
-    (simp or_false)
-
-pub low_byte : (b : ℕ) → b < 65 → 48 ≤ b → leb b 57 ≡ symbol_byte b
-low_byte b l h =
-    rw (lt-leb 65 b l, le-leb 48 b h, ne_eqb b 45 (λ e. omega arith), ne_eqb b 46 (λ e. omega arith)) (simp or_false)
 
 -- what is known of a slice's elements
 pub bytes_of_lem : (s : List ℕ) → ((i : ℕ) → Fits w8 (get_or s i 0)) → Bytes s
@@ -83,32 +73,53 @@ text_bytes (suc n) (x ∷ t) (more p b) h =
     let high : (x + 256 * le n t) / 256 ≡ le n t = omega arith in
     rw (low, high, text_bytes n t b (le_of_suc-le-suc h), padded_cons n x t)
 
--- ---- one turn of the loop that parses: the byte before i
-pub word_step : (w i : ℕ) (t : List ℕ) → 0 < i → i ≤ length t → length t ≤ suc w
-    → le (suc w) (drop (i - 1) t) ≡ le (suc w) (drop i t) * 256 + get_or t (i - 1) 0
-word_step w i t p l h =
-    let e : suc (i - 1) ≡ i = omega arith in
-    let d : length (drop i t) ≤ w = rw length-drop (omega arith) in
-    le_at w (i - 1) t ∙ rw (e, le_more w (drop i t) d) (omega arith)
-
-pub word_small : (w i : ℕ) (t : List ℕ) → Bytes t → 0 < i → length t ≤ suc w → le (suc w) (drop i t) < 256 ^ w
-word_small w i t b p h =
-    let d : length (drop i t) ≤ w = rw length-drop (omega arith) in
-    rw (le_more w (drop i t) d) (le_lt w (drop i t) (bytes_drop i t b))
-
-pub all_fails : (f : ℕ → Bool) (i : ℕ) (t : List ℕ) → i < length t → f (get_or t i 0) ≡ false → all_of f t ≡ false
+pub all_fails : (f : ℕ → Bool) (s : List ℕ) (b : ℕ) (t : List ℕ) → f b ≡ false → all_of f (s ++ b ∷ t) ≡ false
 unfolding all_of
-all_fails f i [] h e = absurd (not-suc-le-zero h)
-all_fails f zero (b ∷ t) h e = rw e
-all_fails f (suc i) (b ∷ t) h e = rw (all_fails f i t (le_of_suc-le-suc h) e) (and_false (f b))
+all_fails f [] b t e = rw e
+all_fails f (a ∷ s) b t e = rw (all_fails f s b t e) (and_false (f a))
 
-pub all_goes : (f : ℕ → Bool) (i : ℕ) (t : List ℕ) → 0 < i → i ≤ length t → f (get_or t (i - 1) 0) ≡ true → all_of f (drop (i - 1) t) ≡ all_of f (drop i t)
-unfolding all_of
-all_goes f i t p l e =
-    let k : suc (i - 1) ≡ i = omega arith in
-    let h : i - 1 < length t = omega arith in
-    let d : drop (i - 1) t ≡ get_or t (i - 1) 0 ∷ drop i t = drop-cons t (i - 1) 0 h ∙ ap (λ (j : ℕ). get_or t (i - 1) 0 ∷ drop j t) k in
-    rw (d, e)
+-- ---- the loop that parses, from the last byte to the first: those in `left` are left, and the word is the number of those after them
+pub record Parsing (t left : List ℕ) (word : ℕ) : Type 0 where
+  pub whole : left ++ drop (length left) t ≡ t
+  pub number : word ≡ le symbol_width (drop (length left) t)
+  pub bytes : all_of symbol_byte (drop (length left) t) ≡ true
+
+pub parsing_starts : (t : List ℕ) → Parsing t t 0
+unfolding le all_of
+parsing_starts t = record { whole = rw drop-length (append-nil t); number = rw drop-length; bytes = rw drop-length }
+
+module _ (t left rest : List ℕ) (b word : ℕ) (e : left ≡ rest ++ b ∷ []) (p : Parsing t left word) where
+  -- the bytes from the next one on
+  next_whole : rest ++ b ∷ drop (length left) t ≡ t
+  next_whole = sym (append_assoc rest (b ∷ []) (drop (length left) t)) ∙ ap (λ (l : List ℕ). l ++ drop (length left) t) (sym e) ∙ p.whole
+
+  next_seen : drop (length rest) t ≡ b ∷ drop (length left) t
+  next_seen = ap (drop (length rest)) (sym next_whole) ∙ drop_at rest (b ∷ drop (length left) t) (length rest) refl
+
+  pub parsing_fails : symbol_byte b ≡ false → all_of symbol_byte t ≡ false
+  unfolding all_of
+  parsing_fails f = ap (all_of symbol_byte) (sym next_whole) ∙ all_fails symbol_byte rest b (drop (length left) t) f
+
+  -- seven bytes at the most were seen
+  seen_few : length t ≤ symbol_width → length (drop (length left) t) ≤ 7
+  seen_few h = rw (length-drop, e, length-append) (omega arith)
+
+  pub parsing_small : Bytes t → length t ≤ symbol_width → word < 256 ^ 7
+  parsing_small c h =
+      rw (p.number, le_more 7 (drop (length left) t) (seen_few h)) (le_lt 7 (drop (length left) t) (bytes_drop (length left) t c))
+
+  pub parsing_goes : symbol_byte b ≡ true → length t ≤ symbol_width → Parsing t rest (word * 256 + b)
+  unfolding all_of le
+  parsing_goes f h =
+      record {
+        whole = ap (λ (l : List ℕ). rest ++ l) next_seen ∙ next_whole;
+        number = rw (next_seen, p.number, le_more 7 (drop (length left) t) (seen_few h)) (omega arith);
+        bytes = rw (next_seen, f) p.bytes;
+      }
+
+-- the whole text was seen
+pub parsing_ends : (t left : List ℕ) (word : ℕ) → length left ≡ 0 → Parsing t left word → (word ≡ le symbol_width t) × (all_of symbol_byte t ≡ true)
+parsing_ends t left word e p = (rw e at p.number, rw e at p.bytes)
 
 -- ---- what a text that parses is
 pub parses_most : (t : List ℕ) → parses t ≡ true → length t ≤ symbol_width

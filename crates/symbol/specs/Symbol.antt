@@ -4,8 +4,7 @@
 use Rattle.std.specs.Prelude.{ℕ, ◌-◌, List, [], ◌∷◌, ◌++◌, Bool, true, false, ◌&&◌, ◌||◌, eqb, leb, ltb, length, take, drop}
 use Rattle.wire.specs.Le.{le, bytes_of}
 use Rattle.symbol.specs.declared.Symbol.{Symbol}
-use Rattle.symbol.specs.declared.Parsed.{Parsed}
-use Rattle.symbol.specs.declared.Parsed.TheVariants.{Is, Nothing}
+use Rattle.std.specs.Prelude.{Some, None, Option}
 
 -- the most bytes that a symbol has
 abbrev pub symbol_width : ℕ
@@ -28,12 +27,12 @@ parses t = leb 1 (length t) && leb (length t) symbol_width && all_of symbol_byte
 abbrev pub symbol_of : List ℕ → Symbol
 symbol_of t = record { word = le symbol_width t; len = length t }
 
-abbrev pub parsed_if : Bool → List ℕ → Parsed
-parsed_if true t = Is (symbol_of t)
-parsed_if false t = Nothing
+abbrev pub parsed_if : Bool → List ℕ → Option Symbol
+parsed_if true t = Some (symbol_of t)
+parsed_if false t = None
 
 -- Symbol::try_new
-unfoldable pub parsed : List ℕ → Parsed
+unfoldable pub parsed : List ℕ → Option Symbol
 unfolding parses
 parsed t = parsed_if (parses t) t
 

@@ -6,7 +6,7 @@ use lib.IntN.{pos, negsuc}
 use Rattle.types.specs.Order.{sign_extended, truncated, state_number, state_of}
 use Rattle.types.specs.declared.order.OrderState.{OrderState}
 use Rattle.types.specs.declared.order.OrderState.TheVariants.{Pending, Submitted, PartiallyFilled, Filled, Cancelled, Rejected}
-use Rattle.types.specs.declared.order.NumberedState.TheVariants.{Is}
+use Rattle.std.specs.Prelude.{Some}
 
 -- 1, -1 and -2^31
 pub extended : map sign_extended (pos 1 ∷ negsuc 0 ∷ negsuc 2147483647 ∷ []) ≡ 1 ∷ (2 ^ 64 - 1) ∷ (2 ^ 64 - 2 ^ 31) ∷ []
@@ -17,7 +17,7 @@ pub cut : map truncated (pos 4294967297 ∷ pos 2147483648 ∷ pos 9223372036854
     ≡ pos 1 ∷ negsuc 2147483647 ∷ negsuc 0 ∷ negsuc 0 ∷ pos 2147483647 ∷ pos 0 ∷ []
 cut = refl
 
-pub state_back : (s : OrderState) → state_of (state_number s) ≡ Is s
+pub state_back : (s : OrderState) → state_of (state_number s) ≡ Some s
 state_back Pending = refl
 state_back Submitted = refl
 state_back PartiallyFilled = refl

@@ -6,7 +6,7 @@ use Prim.Native.Nat.{ℕ, zero, suc, ◌+◌, ◌*◌, ◌/◌, ◌%◌, ◌^◌
 use native.Mathlib.Nat.{mul-one, mul_assoc, mul-div_cancel, mul-le-mul_left, mul-lt-mul_of_pos_right, le_trans, le_of_eq, lt_of_lt_of_le, div-lt_iff_lt-mul, le_of_suc-le-suc, mul-le-mul_right, zero-mul}
 use native.Mathlib.Omega.{arith}
 use lib.Dec.{T, leb, ltb, eqb, ltb→lt, lit<, lit≤}
-use lib.IntN.{ℤ, pos, negsuc, neg_ℤ}
+use lib.IntN.{ℤ, pos, negsuc, neg_ℤ, ◌-ℤ◌}
 use lib.Pow.{pow-add, pow_pos}
 use lib.Ieee.{Float, nan, inf, fin, binary64, up, down, round, fits, le, lt, to_signed}
 use lib.Ieee.Fits.{and_l, and_r, down_pos}
@@ -15,12 +15,16 @@ use lib.Ieee.Back.{round_whole}
 use borrow.Author.Tests.{ltb-true, ltb-false, leb-true, leb-false, lt-ltb, le-ltb, le-leb, lt-leb, eq-eqb, ne_eqb}
 use Rattle.float.specs.Bits.{is_finite}
 use Rattle.types.specs.Fixed.{away, value_if, round_away, in_range, lowest, past}
-use Rattle.types.specs.declared.fixed.Fixed.{Fixed}
-use Rattle.types.specs.declared.fixed.Fixed.TheVariants.{Value, OutOfRange}
 use Rattle.types.proofs.Away.{away_same, away_whole}
+use mir.Syntax.{w64}
+use mir.Val.{SFits}
+use Rattle.std.proofs.lemmas.Int.{ints}
+use Rattle.std.specs.Prelude.{Option, Some, None, Ok, Err, Result, SomeIff, OkIff, IsErrAnd, MatchResult}
+use Rattle.std.specs.Option.{ok_or}
+use Rattle.wire.specs.declared.refusal.Refusal.{Refusal}
 
 -- a sign and a size, in the range from -2 ^ 63 up to but excluding 2 ^ 63
-abbrev pub ranged : Bool → ℕ → Fixed
+abbrev pub ranged : Bool → ℕ → Result ℤ Refusal
 ranged true n = value_if (leb n (2 ^ 63)) (neg_ℤ (pos n))
 ranged false n = value_if (ltb n (2 ^ 63)) (pos n)
 
@@ -156,7 +160,7 @@ of_value (fin r m e) s a c t C v =
     ∙ ap (λ (r : Bool). ranged r (away (m * up e) (down e))) v.0
     ∙ ap (ranged s) (away_same (m * up e) (down e) a c (down_pos e) C v.1)
 
-pub not_finite : (x : Float) → is_finite x ≡ false → OutOfRange ≡ in_range (round_away binary64 x)
+pub not_finite : (x : Float) → is_finite x ≡ false → (Err Refusal.OutOfRange) ≡ in_range (round_away binary64 x)
 unfolding in_range round_away le lt
 not_finite nan h = refl
 not_finite (inf true) h = refl
@@ -170,14 +174,45 @@ same_cap a m e h = omega arith
 over_cap : (a m : ℕ) → m ≡ min a 0xffff_ffff_ffff_ffff → m ≤ a
 over_cap a m e = omega arith
 
-pub yes_neg : (a m : ℕ) → m ≡ min a 0xffff_ffff_ffff_ffff → m ≤ 0x8000_0000_0000_0000 → Value (neg_ℤ (pos m)) ≡ ranged true a
+yes_neg : (a m : ℕ) → m ≡ min a 0xffff_ffff_ffff_ffff → m ≤ 0x8000_0000_0000_0000 → Ok (neg_ℤ (pos m)) ≡ ranged true a
 yes_neg a m e h = sym (ap (ranged true) (same_cap a m e h) ∙ ap (λ (b : Bool). value_if b (neg_ℤ (pos m))) (le-leb m 0x8000_0000_0000_0000 h))
 
-pub no_neg : (a m : ℕ) → m ≡ min a 0xffff_ffff_ffff_ffff → 0x8000_0000_0000_0000 < m → OutOfRange ≡ ranged true a
+no_neg : (a m : ℕ) → m ≡ min a 0xffff_ffff_ffff_ffff → 0x8000_0000_0000_0000 < m → (Err Refusal.OutOfRange) ≡ ranged true a
 no_neg a m e h = let l = over_cap a m e in sym (ap (λ (b : Bool). value_if b (neg_ℤ (pos a))) (lt-leb a 0x8000_0000_0000_0000 (omega arith)))
 
-pub yes_pos : (a m : ℕ) → m ≡ min a 0xffff_ffff_ffff_ffff → m < 0x8000_0000_0000_0000 → Value (pos m) ≡ ranged false a
+yes_pos : (a m : ℕ) → m ≡ min a 0xffff_ffff_ffff_ffff → m < 0x8000_0000_0000_0000 → Ok (pos m) ≡ ranged false a
 yes_pos a m e h = sym (ap (ranged false) (same_cap a m e (omega arith)) ∙ ap (λ (b : Bool). value_if b (pos m)) (lt-ltb m 0x8000_0000_0000_0000 h))
 
-pub no_pos : (a m : ℕ) → m ≡ min a 0xffff_ffff_ffff_ffff → 0x8000_0000_0000_0000 ≤ m → OutOfRange ≡ ranged false a
+no_pos : (a m : ℕ) → m ≡ min a 0xffff_ffff_ffff_ffff → 0x8000_0000_0000_0000 ≤ m → (Err Refusal.OutOfRange) ≡ ranged false a
 no_pos a m e h = let l = over_cap a m e in sym (ap (λ (b : Bool). value_if b (pos a)) (le-ltb a 0x8000_0000_0000_0000 (omega arith)))
+
+-- ---- the same, as the library tests it
+minus : (m : ℕ) → pos 0 -ℤ pos m ≡ neg_ℤ (pos m)
+minus m = omega (arith, ints)
+
+fits_neg : (m : ℕ) → SFits w64 (pos 0 -ℤ pos m) → m ≤ 0x8000_0000_0000_0000
+fits_neg m f = omega (arith, ints)
+
+neg_fits : (m : ℕ) → m ≤ 0x8000_0000_0000_0000 → SFits w64 (pos 0 -ℤ pos m)
+neg_fits m h = omega (arith, ints)
+
+pub checked_neg : (o : Option ℤ) (a m : ℕ) → m ≡ min a 0xffff_ffff_ffff_ffff → SomeIff o (SFits w64 (pos 0 -ℤ pos m)) (pos 0 -ℤ pos m) → ok_or o Refusal.OutOfRange ≡ ranged true a
+checked_neg (Some x) a m e s = ap Ok (s.1 ∙ minus m) ∙ yes_neg a m e (fits_neg m s.0)
+checked_neg None a m e s = go (leb m 0x8000_0000_0000_0000) refl
+  where
+    go : (b : Bool) → leb m 0x8000_0000_0000_0000 ≡ b → Err Refusal.OutOfRange ≡ ranged true a
+    go true h = absurd (s (neg_fits m (leb-true m 0x8000_0000_0000_0000 h)))
+    go false h = no_neg a m e (leb-false m 0x8000_0000_0000_0000 h)
+
+module _ {E : Type 0} {Q : E → Refusal → Type 0} (q : (e : E) (d : Refusal) → Q e d → d ≡ Refusal.OutOfRange) where
+  refused_so : (r : Result ℤ Refusal) (e : E) → IsErrAnd r (Q e) → r ≡ Err Refusal.OutOfRange
+  refused_so (Ok x) e k = absurd k
+  refused_so (Err d) e k = ap Err (q e d k)
+
+  pub checked_pos : (t : Result ℤ E) (r : Result ℤ Refusal) (a m : ℕ) → m ≡ min a 0xffff_ffff_ffff_ffff → OkIff t (SFits w64 (pos m)) (pos m) → MatchResult t (λ x. r ≡ Ok x) (λ e. IsErrAnd r (Q e)) → r ≡ ranged false a
+  checked_pos (Ok x) r a m e o k = k ∙ ap Ok o.1 ∙ yes_pos a m e o.0.sfits
+  checked_pos (Err d) r a m e o k = refused_so r d k ∙ go (ltb m 0x8000_0000_0000_0000) refl
+    where
+      go : (b : Bool) → ltb m 0x8000_0000_0000_0000 ≡ b → Err Refusal.OutOfRange ≡ ranged false a
+      go true h = absurd (o (record { sfits = ltb-true m 0x8000_0000_0000_0000 h }))
+      go false h = no_pos a m e (ltb-false m 0x8000_0000_0000_0000 h)

@@ -4,8 +4,8 @@ use Rattle.std.specs.Float.{nan, inf, fin, Format, binary64}
 use Rattle.std.specs.Float.Ieee.{up, down, round, mul, le, lt, of_int, to_signed}
 use Rattle.float.specs.Bits.{is_finite}
 pub use Rattle.float.specs.Bits.{lowest, past}
-use Rattle.types.specs.declared.fixed.Fixed.{Fixed}
-use Rattle.types.specs.declared.fixed.Fixed.TheVariants.{Value, NotFinite, OutOfRange}
+use Rattle.std.specs.Prelude.{Ok, Err, Result}
+use Rattle.wire.specs.declared.refusal.Refusal.{Refusal}
 
 -- num / den to the nearest whole number, a half away from zero
 abbrev pub away : ℕ → ℕ → ℕ
@@ -19,36 +19,30 @@ round_away f (inf s) = inf s
 round_away f (fin s m e) = round f s (away (m * up e) (down e)) 1
 
 -- "range from -2^63 up to but excluding 2^63", and the cast
-abbrev pub value_if : Bool → ℤ → Fixed
-value_if true z = Value z
-value_if false z = OutOfRange
+abbrev pub value_if : Bool → ℤ → Result ℤ Refusal
+value_if true z = Ok z
+value_if false z = (Err Refusal.OutOfRange)
 
-unfoldable pub in_range : Float → Fixed
+unfoldable pub in_range : Float → Result ℤ Refusal
 unfolding le lt to_signed
 in_range r = value_if (le lowest r && lt r past) (to_signed 63 r)
 
 -- refusal 9 comes before all else
-abbrev pub if_finite : Bool → Fixed → Fixed
+abbrev pub if_finite : Bool → Result ℤ Refusal → Result ℤ Refusal
 if_finite true r = r
-if_finite false r = NotFinite
+if_finite false r = (Err Refusal.NotFinite)
 
 -- `f64_to_fixed_checked`: "One multiply, round half away from zero", the range of the rounded value, the cast
-unfoldable pub to_fixed : Float → Float → Fixed
+unfoldable pub to_fixed : Float → Float → Result ℤ Refusal
 unfolding in_range round_away mul
 to_fixed value scale = if_finite (is_finite value) (in_range (round_away binary64 (mul binary64 value scale)))
 
 -- `f64_cents_checked`: the scale is 100.0
-unfoldable pub to_cents : Float → Fixed
+unfoldable pub to_cents : Float → Result ℤ Refusal
 unfolding to_fixed of_int
 to_cents value = to_fixed value (of_int binary64 (pos 100))
 
--- ---- what an answer is in document 01: the refusal's number, 0 where there is none, and the value, 0 where it is refused
-abbrev pub fixed_refusal : Fixed → ℕ
-fixed_refusal (Value z) = 0
-fixed_refusal NotFinite = 9
-fixed_refusal OutOfRange = 10
-
-abbrev pub fixed_value : Fixed → ℤ
-fixed_value (Value z) = z
-fixed_value NotFinite = pos 0
-fixed_value OutOfRange = pos 0
+-- ---- the value in document 01's answer, 0 where it is refused
+abbrev pub fixed_value : Result ℤ Refusal → ℤ
+fixed_value (Ok z) = z
+fixed_value (Err r) = pos 0

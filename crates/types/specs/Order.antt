@@ -4,8 +4,7 @@ use Rattle.std.specs.Int.{w32, w64}
 use Rattle.std.proofs.Common.{to_z, of_z}
 use Rattle.types.specs.declared.order.OrderState.{OrderState}
 use Rattle.types.specs.declared.order.OrderState.TheVariants.{Pending, Submitted, PartiallyFilled, Filled, Cancelled, Rejected}
-use Rattle.types.specs.declared.order.NumberedState.{NumberedState}
-use Rattle.types.specs.declared.order.NumberedState.TheVariants.{Is, Unknown}
+use Rattle.std.specs.Prelude.{Some, None, Option}
 
 -- `as u64` of an i32: the 64 bits of z in two's complement
 abbrev pub sign_extended : ℤ → ℕ
@@ -24,11 +23,11 @@ state_number Filled = 3
 state_number Cancelled = 4
 state_number Rejected = 5
 
-abbrev pub state_of : ℕ → NumberedState
-state_of zero = Is Pending
-state_of (suc zero) = Is Submitted
-state_of (suc (suc zero)) = Is PartiallyFilled
-state_of (suc (suc (suc zero))) = Is Filled
-state_of (suc (suc (suc (suc zero)))) = Is Cancelled
-state_of (suc (suc (suc (suc (suc zero))))) = Is Rejected
-state_of (suc (suc (suc (suc (suc (suc n)))))) = Unknown
+abbrev pub state_of : ℕ → Option OrderState
+state_of zero = Some Pending
+state_of (suc zero) = Some Submitted
+state_of (suc (suc zero)) = Some PartiallyFilled
+state_of (suc (suc (suc zero))) = Some Filled
+state_of (suc (suc (suc (suc zero)))) = Some Cancelled
+state_of (suc (suc (suc (suc (suc zero))))) = Some Rejected
+state_of (suc (suc (suc (suc (suc (suc n)))))) = None

@@ -1,8 +1,9 @@
 pub mod Bools
 pub mod Numbers
-pub mod TwosComplement
 pub mod Written
 pub mod Table
+pub mod Chains
+pub mod Places
 pub mod Records
 pub mod Large
 pub mod Layouts

@@ -3,7 +3,7 @@
 use Prim.Native.Nat.{ℕ, zero, suc, ◌+◌, ◌*◌, ◌^◌, ◌%◌, ◌/◌, ◌<◌}
 use mathlib.Core.Path.{◌≡◌, sym, ap, ◌∙◌}
 use mathlib.Core.List.{List, ◌++◌}
-use native.Mathlib.Nat.{zero-add, suc-add, mul_comm, mul_assoc, pow-succ', div-lt_iff_lt-mul, div-div-eq-div-mul}
+use native.Mathlib.Nat.{zero-add, suc-add, mul_comm, mul_assoc, pow-succ', div-lt_iff_lt-mul}
 use native.Mathlib.Omega.{arith}
 use lib.Dec.{lit<}
 use lib.ListN.{set}
@@ -31,42 +31,6 @@ sets_number n x t d at = sets_append d (bytes_of n x) t at ∙ ap (λ (k : ℕ).
 
 pub two_words : (d : List ℕ) (at x y : ℕ) → sets (sets d at (bytes_of 8 x)) (at + 8) (bytes_of 8 y) ≡ sets d at (bytes_of 8 x ++ bytes_of 8 y)
 two_words d at x y = sym (sets_number 8 x (bytes_of 8 y) d at)
-
--- four and eight bytes, each by its own store
-pub four_stores : (d : List ℕ) (at x : ℕ) →
-    set (set (set (set d at (x % 256)) (at + 1) (x / 0x100 % 256)) (at + 2) (x / 0x1_0000 % 256)) (at + 3) (x / 0x100_0000 % 256)
-    ≡ sets d at (bytes_of 4 x)
-unfolding bytes_of
-four_stores d at x =
-    let i1 : at + 1 ≡ suc at = omega arith in
-    let i2 : at + 2 ≡ suc (suc at) = omega arith in
-    let i3 : at + 3 ≡ suc (suc (suc at)) = omega arith in
-    rw (i1, i2, i3) (simp div-div-eq-div-mul)
-
-pub eight_stores : (d : List ℕ) (at x : ℕ) →
-    set
-    (set
-    (set
-    (set (set (set (set (set d at (x % 256)) (at + 1) (x / 0x100 % 256)) (at + 2) (x / 0x1_0000 % 256)) (at + 3) (x / 0x100_0000 % 256))
-    (at + 4)
-    (x / 0x1_0000_0000 % 256))
-    (at + 5)
-    (x / 0x100_0000_0000 % 256))
-    (at + 6)
-    (x / 0x1_0000_0000_0000 % 256))
-    (at + 7)
-    (x / 0x100_0000_0000_0000 % 256)
-    ≡ sets d at (bytes_of 8 x)
-unfolding bytes_of
-eight_stores d at x =
-    let i1 : at + 1 ≡ suc at = omega arith in
-    let i2 : at + 2 ≡ suc (suc at) = omega arith in
-    let i3 : at + 3 ≡ suc (suc (suc at)) = omega arith in
-    let i4 : at + 4 ≡ suc (suc (suc (suc at))) = omega arith in
-    let i5 : at + 5 ≡ suc (suc (suc (suc (suc at)))) = omega arith in
-    let i6 : at + 6 ≡ suc (suc (suc (suc (suc (suc at))))) = omega arith in
-    let i7 : at + 7 ≡ suc (suc (suc (suc (suc (suc (suc at)))))) = omega arith in
-    rw (i1, i2, i3, i4, i5, i6, i7) (simp div-div-eq-div-mul)
 
 -- one byte
 pub one_store : (d : List ℕ) (at x : ℕ) → x < 256 → set d at x ≡ sets d at (bytes_of 1 x)

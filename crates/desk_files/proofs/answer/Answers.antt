@@ -1,17 +1,10 @@
 -- `desk_files::answer`: the reply always fits, so the answer is its length and the buffer holds it whole.
-use Rattle.std.proofs.Common.{◌≡◌, ◌∙◌, ℕ, ap, arith, rules, sym}
-use Rattle.reply.specs.Reply.{replied_numbers}
-use Rattle.reply.specs.declared.Replied.{Replied}
+use Rattle.std.proofs.Common.{◌∙◌, ap, rules}
+use Rattle.std.specs.Result.{result_unwrap_or}
 use Rattle.desk_files.proofs.Whole.{whole}
 use Rattle.desk_files.proofs.answer.Goals as goal
 
-pub returns-in-Done : goal.returns-in-Done
-returns-in-Done c =
+pub returns : goal.returns
+returns c =
     let w = rw (c.part.ensures, c.part-2.ensures) at (whole _ _ _ _ _ (search rules) c.reply.ensures) in
-    (ap (λ (x : Replied). (replied_numbers x).1) (sym c.in-Done.is ∙ w.0), w.1)
-
-pub returns-in-NoRoom : goal.returns-in-NoRoom
-returns-in-NoRoom c =
-    let w = whole _ _ _ _ _ (search rules) c.reply.ensures in
-    let z : ◌≡◌ {A = ℕ} 3 0 = ap (λ (x : Replied). (replied_numbers x).0) (sym c.in-NoRoom.is ∙ w.0) in
-    absurd (omega arith)
+    (c.unwrap_or.ensures ∙ ap (λ x. result_unwrap_or x 0) w.0, w.1)

@@ -1,31 +1,26 @@
--- `held::held_value`: the refusals in their order, then the value.
-use mathlib.Core.Path.{◌≡◌, sym, ◌∙◌}
-use Rattle.wire.specs.Layout.{both_of}
-use Rattle.wire.specs.declared.layout.Layout.TheVariants as Lay
-use Rattle.drift.specs.Rows.{rows_layout}
-use Rattle.held.proofs.Refusals.{held_oversize, held_broken, held_sound}
+-- `held::held_value`: the refusals of the lists, then the value.
+use mathlib.Core.Path.{◌≡◌, ◌∙◌}
+use mathlib.Core.List.{[]}
+use Rattle.std.specs.Prelude.{Ok}
+use Rattle.std.proofs.lemmas.Result.{err_from_is_err_and}
+use Rattle.wire.specs.Layout.{Layout}
+use Rattle.drift.specs.Report.{lists_layout}
+use Rattle.drift.proofs.Refusals.{layout_sound}
+use Rattle.held.proofs.Refusals.{held_refused, held_sound}
 use Rattle.held.proofs.held_value.Goals as goal
 
-pub returns-in-Oversize : goal.returns-in-Oversize
-returns-in-Oversize c =
-    let a = c.args in
-    let p = a.positions.now in
-    let q = a.prices.now in
-    let l : both_of (rows_layout 32 p) (rows_layout 24 q) ≡ Lay.Oversize = rw (c.check_rows-held.ensures, c.check_rows-priced.ensures) at (sym c.both-tested.ensures ∙ c.in-Oversize.is) in
-    held_oversize p q l
+pub value-requires : goal.value-requires
+value-requires c = c.in_ok-checked.ensures.lent.1
 
-pub returns-in-Broken : goal.returns-in-Broken
-returns-in-Broken c =
-    let a = c.args in
-    let p = a.positions.now in
-    let q = a.prices.now in
-    let l : both_of (rows_layout 32 p) (rows_layout 24 q) ≡ Lay.Broken = rw (c.check_rows-held.ensures, c.check_rows-priced.ensures) at (sym c.both-tested.ensures ∙ c.in-Broken.is) in
-    held_broken p q l
+pub returns-in_err-checked : goal.returns-in_err-checked
+returns-in_err-checked c =
+    let p = err_from_is_err_and c.from_residual.result c.from_residual.ensures.1 in
+    rw (p.1, p.2) (held_refused c.args.positions.now c.args.prices.now c.in_err-checked.field-0.0 c.in_err-checked.ensures.refused)
 
-pub returns-in-Sound : goal.returns-in-Sound
-returns-in-Sound c =
+pub returns : goal.returns
+returns c =
     let a = c.args in
-    let p = a.positions.now in
-    let q = a.prices.now in
-    let l : both_of (rows_layout 32 p) (rows_layout 24 q) ≡ Lay.Sound = rw (c.check_rows-held.ensures, c.check_rows-priced.ensures) at (sym c.both-tested.ensures ∙ c.in-Sound.is) in
-    c.value.ensures ∙ held_sound p q l
+    let l = c.in_ok-checked.field-0 in
+    let e = c.in_ok-checked.ensures.lent in
+    let s : ◌≡◌ {A = Layout} (lists_layout a.positions.now [] a.prices.now) (Ok tt) = rw (e.0, e.1, e.2) at (layout_sound l.positions.now l.targets.now l.prices.now l.sound) in
+    rw (e.0, e.1, e.2) at c.value.ensures ∙ held_sound a.positions.now a.prices.now s

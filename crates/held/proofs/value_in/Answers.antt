@@ -1,34 +1,27 @@
--- `held::value_in`: the lines of what is held, with no targets.
-use mathlib.Core.Path.{refl, sym, ap, subst, ◌∙◌}
-use mathlib.Core.List.{List, [], map}
-use Prim.Native.Nat.{ℕ}
-use lib.Ieee.{Float}
-use lib.Seq.{drop-length}
-use Rattle.symbol.specs.declared.Symbol.{Symbol}
-use Rattle.drift.specs.Rows.{held_in, targets_in, prices_in, rows_layout}
-use Rattle.drift.specs.Report.{lines_of}
+-- `held::value_in`: the lines of what is held, in the fronts of the table's arrays.
+use mathlib.Core.Path.{ap, ◌∙◌}
+use mathlib.Core.List.{map}
+use native.Mathlib.Omega.{arith}
+use lib.ListN.{length-take}
 use Rattle.held.specs.Value.{worth, value_of}
-use Rattle.drift.specs.Code.{line_at, Blank}
-use Rattle.held.proofs.Worths.{worth_same}
-use Rattle.held.proofs.Refusals.{empty_sound, none_targeted}
+use Rattle.held.proofs.Worths.{front_worth}
 use Rattle.held.proofs.value_in.Goals as goal
 
-pub lines-n-requires : goal.lines-n-requires
-lines-n-requires c =
-    let a = c.args in
-    let e = c.from.ensures ∙ drop-length a.prices.now in
-    record { fact_1 = record { held = c.requires.fact_1; wanted = ap (rows_layout 24) e ∙ empty_sound; priced = c.requires.fact_2 }; fact_2 = subst (λ (t : List ℕ). Blank a.positions.now t a.words.now a.quantities.now a.weights.now a.costs.now) (sym e) c.requires.fact_3 }
+pub shared_whole_as_front-sum_worth : goal.shared_whole_as_front-sum_worth
+shared_whole_as_front-sum_worth g c =
+    (c.fill-n.ensures.room, omega (arith, c.args.table.now.small))
+
+pub shared_whole_as_front-sum_worth-2 : goal.shared_whole_as_front-sum_worth-2
+shared_whole_as_front-sum_worth-2 g c =
+    (c.fill-n.ensures.room, omega (arith, c.args.table.now.small))
+
+pub sum_worth-requires : goal.sum_worth-requires
+sum_worth-requires g c =
+    let f = c.fill-n.ensures.filled in
+    record { few = simp length-take (omega (arith, f.most)); paired = simp length-take (omega (arith, f.quantities, f.costs)) }
 
 pub returns : goal.returns
-returns c =
-    let a = c.args in
-    let p = a.positions.now in
-    let q = a.prices.now in
-    let l = c.lines-n in
-    let ws = l.new.keys in
-    let us = l.new.quantities in
-    let ts = l.new.weights in
-    let cs = l.new.costs in
-    let e = c.from.ensures ∙ drop-length q in
-    let t = ap targets_in e ∙ none_targeted in
-    c.sum_worth.ensures ∙ ap value_of (worth_same (line_at [] us [] cs) (line_at ws us ts cs) (λ i. refl) 0 l.result ∙ ap (map worth) (l.ensures.1 ∙ ap (λ (z : List (Symbol × Float)). lines_of (held_in p) z (prices_in q)) t))
+returns g c =
+    let t = c.fill-n.new.self in
+    let f = c.fill-n.ensures in
+    c.sum_worth.ensures ∙ ap value_of (front_worth t.keys t.quantities t.weights t.costs c.fill-n.result f.filled.quantities ∙ ap (map worth) f.lines)

@@ -1,21 +1,12 @@
--- `marks_record::numbers_ok`: what is left of the records decides.
-use mathlib.Core.Path.{ap, ◌∙◌}
-use Rattle.wire.proofs.Table.{left_fails, left_goes, left_none}
+-- `marks_record::numbers_ok`: what the chain answers.
+use Rattle.std.proofs.Common.{rules, arith, length-drop}
+use Rattle.wire.proofs.Chains.{every_from_all}
 use Rattle.marks_record.specs.MarksRecord.{number_ok}
-use mathlib.Core.Bool.{not}
+use Rattle.std.proofs.lemmas.Iterator.{serves_from_Range}
 use Rattle.marks_record.proofs.numbers_ok.Goals as goal
 
-pub returns-then-not-number_ok : goal.returns-then-not-number_ok
-returns-then-not-number_ok c =
-    let l = c.loop-left in
-    let r = c.number_ok in
-    left_fails number_ok 16 8 _ l.at l.left l.invariant c.loop-left-test.true r.result (r.ensures ∙ ap number_ok c.rest.ensures) (ap not c.if-not-number_ok.true)
-
-pub loop-left-preserved : goal.loop-left-preserved
-loop-left-preserved c =
-    let l = c.loop-left in
-    let r = c.number_ok in
-    left_goes number_ok 16 8 _ l.at l.left l.invariant c.loop-left-test.true r.result (r.ensures ∙ ap number_ok c.rest.ensures) (ap not c.if-not-number_ok.false)
-
 pub returns : goal.returns
-returns c = let l = c.loop-left in left_none number_ok 16 8 _ l.at l.left l.invariant c.loop-left-test.false
+returns c = every_from_all number_ok 16 c.args.s.now c.all.ensures.ran (λ i b q k. search rules)
+
+pub all-requires-clause-callable : goal.all-requires-clause-callable
+all-requires-clause-callable c = serves_from_Range (λ x q k. search rules) (λ x low high. grind (arith, length-drop, high, c.requires))

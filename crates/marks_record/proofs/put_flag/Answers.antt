@@ -6,4 +6,4 @@ use Rattle.marks_record.proofs.put_flag.Goals as goal
 pub returns : goal.returns
 returns c =
     let a = c.args in
-    c.put_u8-2.ensures ∙ rw (c.put_u8.ensures, c.truth_number-2.ensures, c.truth_number.ensures) (flag_written a.d.now a.at a.p)
+    c.put_u8-2.ensures ∙ rw (c.put_u8.ensures, c.from-2.ensures, c.from.ensures) (flag_written a.d.now a.at a.p)

@@ -10,5 +10,5 @@ pub returns : goal.returns
 returns c =
     let a = c.args in
     c.put_u64-4.ensures
-    ∙ rw (c.put_u64-3.ensures, c.put_u64-2.ensures, c.put_u64.ensures, c.unsigned-2.ensures, c.unsigned.ensures, c.number.ensures, to_z-of_z w64 a.m.time (search rules), to_z-of_z w64 a.m.equity (search rules))
+    ∙ rw (c.put_u64-3.ensures, c.put_u64-2.ensures, c.put_u64.ensures, c.cast_unsigned-2.ensures, c.cast_unsigned.ensures, c.from-2.ensures, c.from.ensures, to_z-of_z w64 a.m.time (search rules), to_z-of_z w64 a.m.equity (search rules))
     (head_written a.d.now _ _ _ _)

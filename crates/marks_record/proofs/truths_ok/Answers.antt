@@ -1,20 +1,8 @@
--- `marks_record::truths_ok`: what is left of the bytes decides.
-use mathlib.Core.Path.{refl, sym}
-use mathlib.Core.Bool.{true, false}
-use borrow.Author.Tests.{lt-leb, le-leb}
-use Rattle.wire.proofs.Table.{left_fails, left_goes, left_none}
+-- `marks_record::truths_ok`: what the chain answers.
+use Rattle.std.proofs.Common.{rules, arith, ◌≡◌, ◌*◌}
+use Rattle.wire.proofs.Chains.{every_from_all}
 use Rattle.marks_record.specs.MarksRecord.{truth_ok}
 use Rattle.marks_record.proofs.truths_ok.Goals as goal
 
-pub returns-then-u8_at-gt1 : goal.returns-then-u8_at-gt1
-returns-then-u8_at-gt1 c =
-    let l = c.loop-left in
-    left_fails truth_ok 1 10 _ l.at l.left l.invariant c.loop-left-test.true false (rw (← c.u8_at.ensures) (sym (lt-leb _ _ c.if-u8_at-gt1.true))) refl
-
-pub loop-left-preserved : goal.loop-left-preserved
-loop-left-preserved c =
-    let l = c.loop-left in
-    left_goes truth_ok 1 10 _ l.at l.left l.invariant c.loop-left-test.true true (rw (← c.u8_at.ensures) (sym (le-leb _ _ c.if-u8_at-gt1.false))) refl
-
 pub returns : goal.returns
-returns c = let l = c.loop-left in left_none truth_ok 1 10 _ l.at l.left l.invariant c.loop-left-test.false
+returns c = every_from_all truth_ok 1 c.args.s.now c.all.ensures.ran (λ i b q k. let one : 1 * i ≡ i = omega arith in rw one (search rules))

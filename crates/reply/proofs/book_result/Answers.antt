@@ -1,14 +1,16 @@
 -- `reply::book_result`: by the recovery's answer.
 use lib.ListN.{length}
+use Rattle.std.proofs.lemmas.Result.{err_from_is_err_and}
 use Rattle.reply.proofs.Parts.{by_answer}
 use Rattle.reply.proofs.book_result.Goals as goal
 
-pub returns-in-Done : goal.returns-in-Done
-returns-in-Done c =
+pub returns-in_err-r : goal.returns-in_err-r
+returns-in_err-r c =
     let a = c.args in
-    rw (by_answer a.book.now a.sheet.now (length a.report.now) a.orders.now a.positions.now c.requires.0 c.requires.2 c.requires.3 _ _ _ c.recover.ensures, c.in-Done.is, ← c.part.ensures, ← c.part-in-Done.ensures, ← c.validate_sound-v.ensures) c.compared_result.ensures
+    let p = err_from_is_err_and c.from_residual.result c.from_residual.ensures.1 in
+    rw (p.1, p.2, by_answer a.book.bytes.now a.sheet.bytes.now (length a.report.now) a.orders.now a.positions.now a.book.sound c.requires.no_orders c.requires.no_positions _ _ _ c.recover.ensures, c.in_err-r.was)
 
-pub returns-in-NoRoom : goal.returns-in-NoRoom
-returns-in-NoRoom c =
+pub returns : goal.returns
+returns c =
     let a = c.args in
-    rw (by_answer a.book.now a.sheet.now (length a.report.now) a.orders.now a.positions.now c.requires.0 c.requires.2 c.requires.3 _ _ _ c.recover.ensures, c.in-NoRoom.is)
+    rw (by_answer a.book.bytes.now a.sheet.bytes.now (length a.report.now) a.orders.now a.positions.now a.book.sound c.requires.no_orders c.requires.no_positions _ _ _ c.recover.ensures, c.in_ok-r.was, ← c.part-orders.ensures, ← c.part-positions.ensures, ← c.validate_sound-verdict.ensures) c.compared_result.ensures

@@ -3,14 +3,10 @@ use mathlib.Core.Path.{sym, ◌∙◌}
 use Rattle.reply.specs.Reply.{reply_text}
 use Rattle.reply.proofs.put_reply.Goals as goal
 
-pub returns-in-Sound : goal.returns-in-Sound
+pub returns-in-Ok : goal.returns-in-Ok
 unfolding reply_text
-returns-in-Sound c = rw (sym c.files_layout.ensures ∙ c.in-Sound.is) c.put_book.ensures
+returns-in-Ok c = rw (sym c.files_layout.ensures ∙ c.in-Ok.is) c.put_book.ensures
 
-pub returns-in-Oversize : goal.returns-in-Oversize
+pub returns-in-Err : goal.returns-in-Err
 unfolding reply_text
-returns-in-Oversize c = rw (sym c.files_layout.ensures ∙ c.in-Oversize.is) c.put_refused.ensures
-
-pub returns-in-Broken : goal.returns-in-Broken
-unfolding reply_text
-returns-in-Broken c = rw (sym c.files_layout.ensures ∙ c.in-Broken.is) c.put_refused-in-Broken.ensures
+returns-in-Err c = rw (sym c.files_layout.ensures ∙ c.in-Err.is) c.put_refused.ensures

@@ -1,21 +1,8 @@
--- `sheet::orders_ok`: up to `at` each record passes, so what is left decides.
-use Rattle.wire.proofs.Table.{left_fails, left_goes, left_none}
+-- `orders_ok`: what the chain answers.
+use Rattle.std.proofs.Common.{rules}
+use Rattle.wire.proofs.Chains.{every_from_all}
 use Rattle.sheet.specs.Sheet.{broker_order_ok}
-use mathlib.Core.Path.{ap}
-use mathlib.Core.Bool.{not}
 use Rattle.sheet.proofs.orders_ok.Goals as goal
 
-pub returns-then-not-order_ok : goal.returns-then-not-order_ok
-returns-then-not-order_ok c =
-    let l = c.loop-left in
-    let r = c.order_ok in
-    left_fails broker_order_ok 24 _ _ l.at l.left l.invariant c.loop-left-test.true r.result r.ensures (ap not c.if-not-order_ok.true)
-
-pub loop-left-preserved : goal.loop-left-preserved
-loop-left-preserved c =
-    let l = c.loop-left in
-    let r = c.order_ok in
-    left_goes broker_order_ok 24 _ _ l.at l.left l.invariant c.loop-left-test.true r.result r.ensures (ap not c.if-not-order_ok.false)
-
 pub returns : goal.returns
-returns c = let l = c.loop-left in left_none broker_order_ok 24 _ _ l.at l.left l.invariant c.loop-left-test.false
+returns c = every_from_all broker_order_ok 24 c.args.s.now c.all.ensures.ran (λ i b q k. search rules)

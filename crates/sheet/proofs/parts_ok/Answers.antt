@@ -1,34 +1,29 @@
--- `sheet::parts_ok`: the header's test, then that of each table.
-use mathlib.Core.Path.{◌≡◌}
-use mathlib.Core.Bool.{true, false}
+-- `sheet::parts_ok`: the header's test and that of the orders together, then that of the positions.
+use mathlib.Core.Path.{◌≡◌, sym, ◌∙◌}
+use mathlib.Core.Bool.{true, false, ◌&&◌}
 use Rattle.wire.specs.Table.{every}
 use Rattle.sheet.specs.Sheet.{order_count, orders_in, broker_order_ok, header_ok, parts_ok}
+use Rattle.sheet.proofs.parts_ok.Goals.{then-header_ok, else-header_ok}
 use Rattle.sheet.proofs.parts_ok.Goals as goal
 
-pub returns-then-not-header_ok : goal.returns-then-not-header_ok
+pub returns-then-orders_ok : goal.returns-then-orders_ok
 unfolding parts_ok
-returns-then-not-header_ok c =
+returns-then-orders_ok c =
     let s = c.args.sheet.now in
-    let n = c.if-not-header_ok.true in
-    let h : header_ok s ≡ false = cc in
-    rw h
+    let two : (header_ok s && every broker_order_ok 24 (order_count s) (orders_in s)) ≡ true = elim c.if-header_ok.branch [
+      | then-header_ok w ↦
+          rw (← c.header_ok.ensures, w.if-header_ok.true, ← c.order_count-orders.ensures, ← w.from.ensures, ← w.orders_ok.ensures) (sym w.value-is ∙ c.if-orders_ok.true)
+      | else-header_ok w ↦ rw (← c.header_ok.ensures, w.if-header_ok.false) (sym (w.value-is ∙ w.if-header_ok.false) ∙ c.if-orders_ok.true)
+    ] in
+    rw two (cc)
 
-pub returns-then-not-orders_ok : goal.returns-then-not-orders_ok
+pub returns-else-orders_ok : goal.returns-else-orders_ok
 unfolding parts_ok
-returns-then-not-orders_ok c =
+returns-else-orders_ok c =
     let s = c.args.sheet.now in
-    let n = c.if-not-header_ok.false in
-    let m = c.if-not-orders_ok.true in
-    let h : header_ok s ≡ true = cc in
-    let o : every broker_order_ok 24 (order_count s) (orders_in s) ≡ false = cc in
-    rw (h, o)
-
-pub returns : goal.returns
-unfolding parts_ok
-returns c =
-    let s = c.args.sheet.now in
-    let n = c.if-not-header_ok.false in
-    let m = c.if-not-orders_ok.false in
-    let h : header_ok s ≡ true = cc in
-    let o : every broker_order_ok 24 (order_count s) (orders_in s) ≡ true = cc in
-    rw (h, o) (cc)
+    let two : (header_ok s && every broker_order_ok 24 (order_count s) (orders_in s)) ≡ false = elim c.if-header_ok.branch [
+      | then-header_ok w ↦
+          rw (← c.header_ok.ensures, w.if-header_ok.true, ← c.order_count-orders.ensures, ← w.from.ensures, ← w.orders_ok.ensures) (sym w.value-is ∙ c.if-orders_ok.false)
+      | else-header_ok w ↦ rw (← c.header_ok.ensures, w.if-header_ok.false)
+    ] in
+    rw two c.if-orders_ok.false

@@ -1,21 +1,16 @@
--- `states_equal`: by the layouts' case.
+-- `states_equal`: by the layouts.
 use mathlib.Core.Path.{ap}
+use Rattle.std.proofs.lemmas.Result.{err_from_is_err_and}
+use Rattle.std.specs.Prelude.{Ok}
 use Rattle.state.specs.State.{states_equal}
-use Rattle.state.specs.declared.Equality.TheVariants as E
 use Rattle.state.proofs.states_equal.Goals as goal
 
-pub returns-in-Sound : goal.returns-in-Sound
+pub returns-in_err-both : goal.returns-in_err-both
 unfolding states_equal
-returns-in-Sound c =
-    rw (← c.check_state-a.ensures, ← c.check_state-b.ensures, ← c.both.ensures, c.in-Sound.is)
-    (ap E.Is (rw (c.text-t.ensures, c.text-s.ensures) at c.same_state.ensures))
+returns-in_err-both c =
+    let p = err_from_is_err_and c.from_residual.result c.from_residual.ensures.1 in
+    rw (← c.check.ensures, ← c.check-2.ensures, ← c.in_err-both.ensures, p.1, p.2)
 
-pub returns-in-Oversize : goal.returns-in-Oversize
+pub returns : goal.returns
 unfolding states_equal
-returns-in-Oversize c =
-    rw (← c.check_state-a.ensures, ← c.check_state-b.ensures, ← c.both.ensures, c.in-Oversize.is)
-
-pub returns-in-Broken : goal.returns-in-Broken
-unfolding states_equal
-returns-in-Broken c =
-    rw (← c.check_state-a.ensures, ← c.check_state-b.ensures, ← c.both.ensures, c.in-Broken.is)
+returns c = rw (← c.check.ensures, ← c.check-2.ensures, ← c.in_ok-both.ensures) (ap Ok c.same.ensures)

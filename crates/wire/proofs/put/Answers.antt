@@ -1,19 +1,16 @@
 -- `wire::put`: what is still to be written, put after what is, is what was asked for.
-use mathlib.Core.Path.{sym, ◌∙◌}
-use lib.ListN.{length-set}
-use Rattle.wire.specs.Le.{bytes_of}
-use Rattle.wire.proofs.Written.{sets_past, bytes_of_none, put_step}
+use native.Mathlib.Omega.{arith}
+use Rattle.std.proofs.Common.{sym, ◌∙◌, ◌-◌, ◌+◌, ◌≡◌}
+use Rattle.wire.proofs.Written.{put_step, put_end}
 use Rattle.wire.proofs.put.Goals as goal
 
-pub returns-then-d-i : goal.returns-then-d-i
-returns-then-d-i c =
-    let l = c.loop-left in
-    sym (l.invariant.1 ∙ sets_past l.d l.i (bytes_of l.left l.rest) c.if-d-i.true)
-
-pub loop-left-preserved : goal.loop-left-preserved
-loop-left-preserved c =
-    let l = c.loop-left in
-    (length-set l.d l.i _ ∙ l.invariant.0, l.invariant.1 ∙ put_step l.d l.i l.left l.rest c.loop-left-test.true)
+pub loop-i-preserved : goal.loop-i-preserved
+loop-i-preserved c =
+    let l = c.loop-i in
+    let e : c.args.n - (l.i - c.args.at) - 1 ≡ c.args.n - (l.i + 1 - c.args.at) = omega (arith, l.auto.i) in
+    l.invariant ∙ put_step l.d l.i _ l.rest (omega (arith, c.loop-i-test.true, c.min-end.ensures, c.saturating_add.ensures, l.auto.i)) ∙ rw e
 
 pub returns : goal.returns
-returns c = sym (c.loop-left.invariant.1 ∙ rw (bytes_of_none _ _ c.loop-left-test.false))
+returns c =
+    let l = c.loop-i in
+    sym (l.invariant ∙ put_end l.d l.i _ l.rest (λ h. omega (arith, h, c.loop-i-test.false, c.min-end.ensures, c.saturating_add.ensures, l.auto.d)))

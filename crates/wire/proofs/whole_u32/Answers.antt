@@ -1,11 +1,7 @@
--- `wire::whole_u32`: the number by its bytes.
-use native.Mathlib.Omega.{arith}
-use Rattle.wire.specs.Le.{le}
-use Rattle.wire.proofs.Numbers.{le_at}
+-- `wire::whole_u32`: the number of the bytes.
+use Rattle.std.proofs.Common.{◌∙◌}
+use Rattle.wire.proofs.Numbers.{le_4}
 use Rattle.wire.proofs.whole_u32.Goals as goal
 
 pub returns : goal.returns
-unfolding le
-returns c =
-    let s = c.args.s.now in
-    omega (arith, le_at 3 0 s, le_at 2 1 s, le_at 1 2 s, le_at 0 3 s)
+returns c = c.from_le_bytes.ensures ∙ le_4 c.whole.result ∙ c.whole.ensures

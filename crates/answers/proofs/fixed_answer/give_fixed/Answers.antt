@@ -1,14 +1,8 @@
--- `answers::fixed_answer::give_fixed` meets its contract: each refusal is a law of `Answers`, a value is as `give_value` ensures. Assumes nothing.
+-- `answers::fixed_answer::give_fixed` meets its contract: a refusal by a law of `Answers`, a value as `give_value` ensures. Assumes nothing.
 use lib.ListN.{length}
-use Rattle.answers.proofs.Answers.{carry, not_finite, out_of_range}
+use Rattle.answers.proofs.Answers.{carry, refused_answer}
 use Rattle.answers.proofs.fixed_answer.give_fixed.Goals as goal
 
-pub returns-in-NotFinite : goal.returns-in-NotFinite
-returns-in-NotFinite c =
-    let room = length c.args.answer.now in
-    carry room c.in-NotFinite.is c.clear.ensures (not_finite room)
-
-pub returns-in-OutOfRange : goal.returns-in-OutOfRange
-returns-in-OutOfRange c =
-    let room = length c.args.answer.now in
-    carry room c.in-OutOfRange.is c.clear-in-OutOfRange.ensures (out_of_range room)
+pub returns-in-Err : goal.returns-in-Err
+returns-in-Err c =
+    rw c.into.ensures (carry (length c.args.answer.now) c.in-Err.is c.clear.ensures (refused_answer c.in-Err.refusal (length c.args.answer.now)))

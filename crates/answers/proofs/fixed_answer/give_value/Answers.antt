@@ -18,7 +18,7 @@ pub returns-then-answer-eq8 : goal.returns-then-answer-eq8
 returns-then-answer-eq8 c =
     let v = c.args.v in
     let d = c.args.answer.now in
-    let bits : c.unsigned.result ≡ of_z w64 v = c.unsigned.ensures ∙ ap (of_z w64) (to_z-of_z w64 v c.ranges.v) in
+    let bits : c.cast_unsigned.result ≡ of_z w64 v = c.cast_unsigned.ensures ∙ ap (of_z w64) (to_z-of_z w64 v c.ranges.v) in
     value_within v (length d)
     (within_whole 8 0 c.if-answer-eq8.true
     (c.put_whole_u64.ensures ∙ ap (λ (n : ℕ). sets d 0 (bytes_of 8 n)) bits ∙ number_as_cleared d (of_z w64 v) c.if-answer-eq8.true))
@@ -26,7 +26,7 @@ returns-then-answer-eq8 c =
 pub returns : goal.returns
 returns c =
     let v = c.args.v in
-    let bits : c.unsigned-2.result ≡ of_z w64 v = c.unsigned-2.ensures ∙ ap (of_z w64) (to_z-of_z w64 v c.ranges.v) in
+    let bits : c.cast_unsigned-2.result ≡ of_z w64 v = c.cast_unsigned-2.ensures ∙ ap (of_z w64) (to_z-of_z w64 v c.ranges.v) in
     let bytes = c.put_u64.ensures ∙ ap (λ (n : ℕ). sets c.clear.new.d 0 (bytes_of 8 n)) bits
     ∙ ap (λ (d : List ℕ). sets d 0 (bytes_of 8 (of_z w64 v))) c.clear.ensures in
     value_within v (length c.args.answer.now)

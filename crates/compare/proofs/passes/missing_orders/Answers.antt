@@ -1,15 +1,14 @@
--- `passes::missing_orders`: what the first i records add was added.
-use native.Mathlib.Omega.{arith}
-use Rattle.wire.specs.Table.{records}
-use Rattle.compare.specs.Report.{pass}
-use Rattle.compare.proofs.Adding.{adds_none, adds_next}
+-- `passes::missing_orders`: a pass, by the record at each place.
+use Prim.Native.Nat.{◌/◌}
+use lib.ListN.{length}
+use Rattle.std.proofs.Common.{rules}
+use Rattle.records.specs.Record.{order_of}
+use Rattle.sheet.specs.Sheet.{sheet_orders}
+use Rattle.compare.specs.Report.{missing}
+use Rattle.compare.proofs.Adding.{pass_added}
 use Rattle.compare.proofs.passes.missing_orders.Goals as goal
 
-pub loop-i-init : goal.loop-i-init
-unfolding pass records
-loop-i-init c = (omega arith, adds_none)
-
-pub loop-i-preserved : goal.loop-i-preserved
-loop-i-preserved c =
-    let l = c.loop-i in
-    (omega arith, adds_next _ _ _ _ _ l.invariant.1 c.missing.ensures c.note-s.ensures)
+pub returns : goal.returns
+returns c =
+    let s = c.args.orders.now in
+    pass_added (missing (sheet_orders c.args.broker.sheet.now)) order_of 64 (length s / 64) s c.pass.ensures (λ i x h e. search rules)

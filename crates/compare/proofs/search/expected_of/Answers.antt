@@ -1,37 +1,46 @@
--- `search::expected_of`: no position before i has the symbol.
-use Prim.Native.Nat.{ℕ, ◌/◌}
-use mathlib.Core.Path.{sym, ap, ◌∙◌}
+-- `search::expected_of`: what is read at the place that the chain finds.
+use Prim.Native.Nat.{ℕ}
+use mathlib.Core.Path.{refl, ap, ◌∙◌}
+use native.Mathlib.Omega.{arith}
+use lib.ListN.{drop}
+use Rattle.std.proofs.Common.{rules}
+use Rattle.std.specs.Prelude.{Some}
 use mathlib.Core.List.{List}
-use lib.ListN.{length, drop}
 use mir.Syntax.{w64}
 use mir.Val.{to_z}
 use mir.ValLaws.{to_z-of_z}
 use Rattle.wire.specs.Le.{le}
 use Rattle.records.specs.Record.{position_of}
-use Rattle.compare.specs.declared.search.Expected.TheVariants as E
-use Rattle.compare.proofs.Lookups.{expected_here, expected_on, expected_end}
+use Rattle.records.specs.Search.{holds}
+use Rattle.records.specs.declared.position.Position.{Position}
+use Rattle.records.proofs.Firsts.{taken_from_find, place_found}
+use Rattle.compare.specs.Report.{expected_of}
 use Rattle.compare.proofs.search.expected_of.Goals as goal
 
-pub returns-then-field_is : goal.returns-then-field_is
-unfolding position_of
-returns-then-field_is c =
-    let a = c.args in
-    let l = c.loop-i in
-    let s = a.positions.now in
-    let r = c.i64_at in
-    ap E.Is (to_z-of_z w64 r.result (record { sfits = r.type_inv }) ∙ r.ensures ∙ ap (λ (t : List ℕ). to_z w64 (le 8 (drop 16 t))) c.rest.ensures)
-    ∙ sym (l.invariant ∙ expected_here a.y (length s / 32) s l.i c.loop-i-test.true (sym c.field_is.ensures ∙ c.if-field_is.true))
+pub overflow_mul-i : goal.overflow_mul-i
+overflow_mul-i c =
+    let here = place_found _ _ _ c.find.result c.in_ok-i.i c.find.ensures.ran (λ x q k. search rules) c.in_ok-i.was in
+    omega (arith, here)
 
-pub loop-i-preserved : goal.loop-i-preserved
-unfolding position_of
-loop-i-preserved c =
-    let a = c.args in
-    let l = c.loop-i in
-    let s = a.positions.now in
-    l.invariant ∙ expected_on a.y (length s / 32) s l.i c.loop-i-test.true (sym c.field_is.ensures ∙ c.if-field_is.false)
+pub rest-requires : goal.rest-requires
+rest-requires c =
+    let here = place_found _ _ _ c.find.result c.in_ok-i.i c.find.ensures.ran (λ x q k. search rules) c.in_ok-i.was in
+    omega (arith, here)
+
+pub returns-in_err-i : goal.returns-in_err-i
+unfolding expected_of position_of
+returns-in_err-i c =
+    let y = c.args.y in
+    let s = c.args.positions.now in
+    let e = taken_from_find (holds y) (λ (p : Position). p.quantity) (expected_of y) refl (λ x xs. refl) position_of 32 s _ c.find.result c.find.ensures.ran (λ i b q k. search rules) in
+    c.from_residual.ensures ∙ (rw c.in_err-i.was at e)
 
 pub returns : goal.returns
+unfolding expected_of position_of
 returns c =
-    let a = c.args in
-    let l = c.loop-i in
-    sym (l.invariant ∙ expected_end a.y (length a.positions.now / 32) a.positions.now l.i c.loop-i-test.false)
+    let y = c.args.y in
+    let s = c.args.positions.now in
+    let e = taken_from_find (holds y) (λ (p : Position). p.quantity) (expected_of y) refl (λ x xs. refl) position_of 32 s _ c.find.result c.find.ensures.ran (λ i b q k. search rules) in
+    let r = c.i64_at in
+    ap Some (to_z-of_z w64 r.result (record { sfits = r.type_inv }) ∙ r.ensures ∙ ap (λ (t : List ℕ). to_z w64 (le 8 (drop 16 t))) c.rest.ensures)
+    ∙ (rw c.in_ok-i.was at e)

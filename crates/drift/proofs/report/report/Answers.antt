@@ -5,10 +5,18 @@ use Rattle.drift.proofs.Looked.{sound_rows}
 use Rattle.drift.proofs.Lines.{blank}
 use Rattle.drift.proofs.report.report.Goals as goal
 
-pub report_in-requires-2 : goal.report_in-requires-2
-report_in-requires-2 c =
-    let p = c.args.positions.now in
-    let t = c.args.targets.now in
-    let h = (sound_rows 32 p (bytes_of_lem p c.type_inv.positions) c.requires.fact_1.held).0 in
-    let w = (sound_rows 24 t (bytes_of_lem t c.type_inv.targets) c.requires.fact_1.wanted).0 in
-    record { fact_1 = c.requires.fact_1; fact_2 = blank 2048 p t (omega (arith, h, w)); fact_3 = c.requires.fact_2 }
+pub report-requires : goal.report-requires
+report-requires c =
+    let l = c.args.lists in
+    let t = c.new.ensures in
+    (omega arith, (blank 32 l.positions.now l.targets.now c.if-lists-le32.true t.no_key t.no_quantity t.no_weight t.no_cost, c.requires))
+
+pub report-requires-else-lists-le32 : goal.report-requires-else-lists-le32
+report-requires-else-lists-le32 c =
+    let l = c.args.lists in
+    let p = l.positions.now in
+    let w = l.targets.now in
+    let t = c.new-else-lists-le32.ensures in
+    let h = (sound_rows 32 p (bytes_of_lem p (λ i. record { fits = l.bytes.held i })) l.sound.held).0 in
+    let k = (sound_rows 24 w (bytes_of_lem w (λ i. record { fits = l.bytes.wanted i })) l.sound.wanted).0 in
+    (omega arith, (blank 2048 p w (omega arith) t.no_key t.no_quantity t.no_weight t.no_cost, c.requires))

@@ -10,5 +10,5 @@ use Rattle.drift.proofs.report.tracking_error.Goals as goal
 pub returns : goal.returns
 unfolding tracking_error of_bits of_int
 returns c =
-    let q = c.sqrt.ensures ∙ ap (λ (x : Float). sqrt binary64 (div binary64 c.args.sum x)) (c.nearest_u64.ensures ∙ ap (λ (n : ℕ). of_int binary64 (pos n)) c.at_least_one.ensures) in
+    let q = c.sqrt.ensures ∙ ap (λ (x : Float). sqrt binary64 (div binary64 c.args.sum x)) (c.nearest_u64.ensures ∙ ap (λ (n : ℕ). of_int binary64 (pos n)) c.max.ensures) in
     ap (λ (x : Float). mul binary64 x (of_int binary64 (pos 100))) q

@@ -13,24 +13,23 @@ use Rattle.drift.proofs.words.gather.Goals as goal
 
 pub loop-i-preserved : goal.loop-i-preserved
 loop-i-preserved c =
-    let x = c.key_in in
+    let x = c.key in
     let l = c.loop-i in
-    let a = c.args in (
-      omega arith,
-      omega (arith, c.insert-taken.ensures.0),
-      c.insert-taken.auto.keys ∙ l.invariant.2,
-      subst Rising (sym c.insert-taken.ensures.1) (rising_inserted x.result (take l.taken l.keys) l.invariant.3),
-      gathered_step a.width a.count a.list.now l.i c.loop-i-test.true x.result (take l.taken l.keys) _ x.ensures c.insert-taken.ensures.1 ∙ l.invariant.4,
+    let r = c.args.rows in
+    let put = c.insert-taken.ensures in (
+      omega (arith, put.one_more),
+      subst Rising (sym put.in_place) (rising_inserted x.result (take l.taken l.keys) l.invariant.1),
+      gathered_step r.width r.count r.bytes.now l.i c.loop-i-test.true x.result (take l.taken l.keys) _ x.ensures put.in_place ∙ l.invariant.2,
     )
 
 pub returns : goal.returns
 unfolding sorted_with
 returns c =
-    let a = c.args in
+    let r = c.args.rows in
     let l = c.loop-i in
-    let s = a.list.now in
+    let s = r.bytes.now in
     record {
-      most = rw (length_records row_of a.width a.count s) (omega arith);
-      sorted = rw (rest_none row_of a.width a.count s l.i c.loop-i-test.false) at l.invariant.4;
-      rising = l.invariant.3;
+      most = rw (length_records row_of r.width r.count s) (omega arith);
+      sorted = rw (rest_none row_of r.width r.count s l.i c.loop-i-test.false) at l.invariant.2;
+      rising = l.invariant.1;
     }

@@ -1,14 +1,10 @@
--- `words::key_of`: two halves of four bytes.
-use Prim.Native.Nat.{◌/◌}
+-- `words::key_of`: what `swap_bytes` gives, with its divisions in one.
+use native.Mathlib.Nat.{div-div-eq-div-mul}
 use native.Mathlib.Omega.{arith}
-use Rattle.drift.proofs.Keys.{swap_lt, swap_halves}
+use mathlib.Core.Path.{◌∙◌}
+use Rattle.drift.specs.Code.{swapped}
 use Rattle.drift.proofs.words.key_of.Goals as goal
 
-pub overflow_mul-result : goal.overflow_mul-result
-overflow_mul-result c = omega (arith, swap_lt 4 c.args.x)
-
-pub overflow_add-result : goal.overflow_add-result
-overflow_add-result c = omega (arith, swap_lt 4 c.args.x, swap_lt 4 (c.args.x / 0x1_0000_0000))
-
 pub returns : goal.returns
-returns c = rw (c.four-2.ensures, c.four.ensures, swap_halves c.args.x)
+unfolding swapped
+returns c = c.swap_bytes.ensures ∙ simp div-div-eq-div-mul (omega arith)

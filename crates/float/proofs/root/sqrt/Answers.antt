@@ -16,7 +16,7 @@ root_bits-requires c =
     let held : T (fits binary64 c.args.x) = subst T (sym c.well_formed.0.1) tt in
     let back : of_bits binary64 c.to_bits-n.result ≡ c.args.x = ap (of_bits binary64) c.to_bits-n.ensures ∙ of_bits-to_bits binary64 c.args.x held in
     let up : lt nought (of_bits binary64 c.to_bits-n.result) ≡ true = ap (lt nought) back ∙ c.if-x.true in
-    record { fact_1 = above_none c.to_bits-n.result up; fact_2 = c.if-n-lt9218868437227405312.true }
+    record { some = above_none c.to_bits-n.result up; finite = c.if-n-lt9218868437227405312.true }
 
 pub returns-then-n-lt9218868437227405312 : goal.returns-then-n-lt9218868437227405312
 returns-then-n-lt9218868437227405312 c =

@@ -1,25 +1,29 @@
--- `query::ask`: what is still to be asked decides.
-use mathlib.Core.Path.{◌∙◌}
-use lib.ListN.{drop}
-use Rattle.intents.proofs.Queries.{query_none, query_spent, query_yes, query_on}
+-- `query::ask`: by the place of the first query that was answered.
+use Prim.Native.Nat.{◌+◌}
+use mathlib.Core.Path.{◌≡◌, sym, ap, ◌∙◌}
+use native.Mathlib.Omega.{arith}
+use borrow.Author.Tests.{tests}
+use lib.ListN.{take, drop}
+use lib.Seq.{drop-drop}
+use Rattle.std.proofs.Common.{rules}
+use Rattle.std.proofs.lemmas.Iterator.{YieldsList-from_slice}
+use Rattle.std.proofs.lemmas.Iterator.Search.{position_from_yields_List}
+use Rattle.intents.proofs.Queries.{answers, after, place_of, asked_of}
 use Rattle.intents.proofs.query.ask.Goals as goal
 
-pub returns-then-queries-i : goal.returns-then-queries-i
-returns-then-queries-i c =
-    let l = c.loop-left in
-    l.invariant ∙ query_spent l.left c.args.queries.now l.i c.loop-left-test.true c.if-queries-i.true
+pub returns-in-Some : goal.returns-in-Some
+returns-in-Some c =
+    let a = c.args in
+    let s = drop a.at a.queries.now in
+    let e : c.position.result ≡ place_of 5 s =
+    position_from_yields_List answers _ _ c.position.result c.position.ensures.ran (YieldsList-from_slice (take 5 s) cc) (λ x b q k. search (rules, tests)) in
+    let n : a.at + (c.in-Some.i + 1) ≡ a.at + c.in-Some.i + 1 = omega arith in
+    asked_of 5 s ∙ ap (after 5 s) (sym e ∙ c.in-Some.is) ∙ rw (drop-drop (c.in-Some.i + 1) a.at a.queries.now, n)
 
-pub returns-then-queries-i-eq0 : goal.returns-then-queries-i-eq0
-returns-then-queries-i-eq0 c =
-    let l = c.loop-left in
-    l.invariant ∙ query_yes l.left c.args.queries.now l.i c.loop-left-test.true c.if-queries-i.false c.if-queries-i-eq0.true
-
-pub loop-left-preserved : goal.loop-left-preserved
-loop-left-preserved c =
-    let l = c.loop-left in
-    l.invariant ∙ query_on l.left c.args.queries.now l.i c.loop-left-test.true c.if-queries-i.false c.if-queries-i-eq0.false
-
-pub returns : goal.returns
-returns c =
-    let l = c.loop-left in
-    l.invariant ∙ query_none l.left (drop l.i c.args.queries.now) c.loop-left-test.false
+pub returns-in-None : goal.returns-in-None
+returns-in-None c =
+    let a = c.args in
+    let s = drop a.at a.queries.now in
+    let e : c.position.result ≡ place_of 5 s =
+    position_from_yields_List answers _ _ c.position.result c.position.ensures.ran (YieldsList-from_slice (take 5 s) cc) (λ x b q k. search (rules, tests)) in
+    asked_of 5 s ∙ ap (after 5 s) (sym e ∙ c.in-None.is) ∙ rw (← c.part-asked.ensures, drop-drop)

@@ -12,11 +12,11 @@ loop-i-preserved c =
     let l = c.loop-i in
     let p = c.put_line-n in
     let w = kinds_on a.count a.report.now l.i c.loop-i-test.true l.d p.new.d (a.at + l.n) p.result (rw (← c.u32_at.ensures) (p.ensures.0, p.ensures.1)) in
-    (p.auto.d ∙ l.invariant.0, omega arith, omega arith, l.invariant.3 ∙ ap (λ (x : ℕ). l.n + x) w.0 ∙ sym (add_assoc l.n p.result _), l.invariant.4 ∙ w.1 ∙ rw (add_assoc a.at l.n p.result))
+    (p.auto.d ∙ l.invariant.0, omega arith, l.invariant.2 ∙ ap (λ (x : ℕ). l.n + x) w.0 ∙ sym (add_assoc l.n p.result _), l.invariant.3 ∙ w.1 ∙ rw (add_assoc a.at l.n p.result))
 
 pub returns : goal.returns
 returns c =
     let a = c.args in
     let l = c.loop-i in
     let e = kinds_none a.count a.report.now l.i c.loop-i-test.false in
-    (sym (l.invariant.3 ∙ rw (e, add-zero l.n)), sym (l.invariant.4 ∙ rw e), omega arith)
+    (sym (l.invariant.2 ∙ rw (e, add-zero l.n)), sym (l.invariant.3 ∙ rw e), omega arith)

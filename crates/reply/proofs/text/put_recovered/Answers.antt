@@ -26,8 +26,8 @@ returns c =
     let n2 = v.result + act.result in
     let n3 = n2 + l.result in
     let n4 = n3 + o.result in
-    let w2 = wrote_next d t1 v.new.d v.result (action_line r.action) act.new.d act.result v.ensures.fact_1 (act.ensures.0, act.ensures.1) in
+    let w2 = wrote_next d t1 v.new.d v.result (action_line r.action) act.new.d act.result v.ensures.text (act.ensures.0, act.ensures.1) in
     let w3 = wrote_next d t2 act.new.d n2 (last_line r.marks.checkpoint r.marks.number) l.new.d l.result w2 (l.ensures.0, l.ensures.1) in
     let w4 = wrote_next d t3 l.new.d n3 (line (ascii "orders ") r.orders) o.new.d o.result w3 (o.ensures.0, o.ensures.1) in
     let w5 = wrote_next d t4 o.new.d n4 (line (ascii "positions ") r.positions) p.new.d p.result w4 (p.ensures.0, p.ensures.1) in
-    record { fact_1 = w5; fact_2 = omega (arith, v.ensures.fact_2, act.ensures, l.ensures, o.ensures, p.ensures) }
+    record { text = w5; short = omega (arith, v.ensures.short, act.ensures, l.ensures, o.ensures, p.ensures) }

@@ -11,4 +11,4 @@ returns c =
     let t = c.put_recovered-n in
     let k = c.put_report in
     wrote_next a.d.now (recovered_lines a.v a.r) t.new.d t.result (report_lines (records (le 4) 48 a.count a.report.now)) k.new.d k.result
-    t.ensures.fact_1 (k.ensures.0, k.ensures.1)
+    t.ensures.text (k.ensures.0, k.ensures.1)

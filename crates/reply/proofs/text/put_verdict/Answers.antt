@@ -7,9 +7,9 @@ use Rattle.reply.specs.Text.{verdict_line}
 use Rattle.reply.proofs.Room.{wrote_next}
 use Rattle.reply.proofs.text.put_verdict.Goals as goal
 
-pub returns-clause-fact_1 : goal.returns-clause-fact_1
+pub returns-clause-text : goal.returns-clause-text
 unfolding verdict_line
-returns-clause-fact_1 c =
+returns-clause-text c =
     let d = c.args.d.now in
     let n = c.verdict_numbers-x in
     let t = c.put_field-n in

@@ -1,33 +1,12 @@
--- `lists::same_orders`: up to i the two agree, so what is left decides.
-use Prim.Native.Nat.{◌/◌}
-use mathlib.Core.Path.{sym, ◌∙◌}
-use lib.ListN.{length}
+-- `lists::same_orders`: what the chain answers.
+use Rattle.std.proofs.Common.{rules}
 use Rattle.records.specs.Record.{order_of}
 use Rattle.state.specs.State.{same_order}
-use Rattle.state.proofs.Tables.{lists_unlike, lists_differ, lists_on, lists_end}
+use Rattle.state.proofs.Tables.{lists_differ, lists_from_all}
 use Rattle.state.proofs.lists.same_orders.Goals as goal
 
 pub returns-then-n-b : goal.returns-then-n-b
-returns-then-n-b c =
-    let a = c.args in
-    sym (lists_unlike (same_order a.s.now a.t.now) order_of 64 (length a.a.now / 64) (length a.b.now / 64) a.a.now a.b.now c.if-n-b.true)
+returns-then-n-b c = lists_from_all (same_order c.args.s.now c.args.t.now) order_of 64 c.args.a.now c.args.b.now c.if-n-b.true c.all.ensures.ran (λ i b q k. search rules)
 
-pub returns-then-not-order_agrees : goal.returns-then-not-order_agrees
-returns-then-not-order_agrees c =
-    let a = c.args in
-    let l = c.loop-i in
-    let r = c.order_agrees in
-    sym (l.invariant ∙ lists_differ (same_order a.s.now a.t.now) order_of 64 _ a.a.now a.b.now l.i c.loop-i-test.true (rw (← r.ensures) (c.if-not-order_agrees.true)))
-
-pub loop-i-preserved : goal.loop-i-preserved
-loop-i-preserved c =
-    let a = c.args in
-    let l = c.loop-i in
-    let r = c.order_agrees in
-    l.invariant ∙ lists_on (same_order a.s.now a.t.now) order_of 64 _ a.a.now a.b.now l.i c.loop-i-test.true (rw (← r.ensures) (c.if-not-order_agrees.false))
-
-pub returns : goal.returns
-returns c =
-    let a = c.args in
-    let l = c.loop-i in
-    sym (l.invariant ∙ lists_end (same_order a.s.now a.t.now) order_of 64 _ a.a.now a.b.now l.i c.loop-i-test.false)
+pub returns-else-n-b : goal.returns-else-n-b
+returns-else-n-b c = lists_differ (same_order c.args.s.now c.args.t.now) order_of 64 _ _ c.args.a.now c.args.b.now c.if-n-b.false

@@ -1,75 +1,60 @@
--- `Symbol::try_new`: from i on the bytes may stand in a symbol, and the word is their number.
-use Prim.Native.Nat.{ℕ, ◌^◌, ◌-◌, ◌≤◌, ◌<◌}
-use mathlib.Core.Path.{◌≡◌, sym, ap, ◌∙◌}
-use mathlib.Core.Bool.{true, ◌&&◌}
+-- `Symbol::try_new`: the bytes that were seen may stand in a symbol, and the word is their number.
 use native.Mathlib.Omega.{arith}
 use lib.Dec.{leb}
-use lib.ListN.{length, drop}
-use lib.Seq.{drop-length}
-use borrow.Author.Rules.{rules}
 use borrow.Author.Tests.{le-leb, lt-leb}
-use Rattle.wire.specs.Le.{le}
-use Rattle.symbol.specs.Symbol.{symbol_byte, all_of, parses, parsed}
+use Rattle.std.proofs.Common.{rules, sym, ◌∙◌, ◌≡◌, ◌≤◌, ◌&&◌, length}
+use Rattle.symbol.specs.Symbol.{parses, parsed}
 use Rattle.wire.proofs.Bools.{and_false}
-use Rattle.wire.proofs.Written.{Bytes}
-use mathlib.Core.List.{List}
-use Rattle.symbol.proofs.Text.{bytes_of_lem, word_step, word_small, all_fails, all_goes}
+use Rattle.symbol.proofs.Text.{bytes_of_lem, parsing_starts, parsing_fails, parsing_small, parsing_goes, parsing_ends}
+use Rattle.symbol.proofs.Symbol.try_new.Goals.{then-is_empty-via-then-is_empty, then-is_empty-via-else-is_empty+then-text-gt8}
 use Rattle.symbol.proofs.Symbol.try_new.Goals as goal
 
--- the number from i on has seven bytes at the most
-small : (i w : ℕ) (t : List ℕ) → Bytes t → 0 < i → length t ≤ 8 → w ≡ le 8 (drop i t) → w < 256 ^ 7
-small i w t b p h e = rw e (word_small 7 i t b p h)
-
-pub returns-then-n-lt1 : goal.returns-then-n-lt1
+pub returns-then-is_empty : goal.returns-then-is_empty
 unfolding parses parsed
-returns-then-n-lt1 c =
-    let t = c.args.text.now in
-    rw (lt-leb 1 (length t) c.if-n-lt1.true)
+returns-then-is_empty c =
+    let n = length c.args.text.now in
+    elim c.then-is_empty.branch [
+      | then-is_empty-via-then-is_empty w ↦ let z : n ≡ 0 = grind arith in rw z
+      | then-is_empty-via-else-is_empty+then-text-gt8 w ↦ rw (lt-leb n 8 w.if-text-gt8.true, and_false (leb 1 n))
+    ]
 
-pub returns-then-n-gt8 : goal.returns-then-n-gt8
-unfolding parses parsed
-returns-then-n-gt8 c =
-    let t = c.args.text.now in
-    rw (le-leb 1 (length t) c.if-n-lt1.false, lt-leb (length t) 8 c.if-n-gt8.true)
-
-pub loop-i-init : goal.loop-i-init
-unfolding all_of le
-loop-i-init c =
-    let t = c.args.text.now in
-    (search rules, rw (drop-length t), rw (drop-length t))
+pub loop-b-init : goal.loop-b-init
+loop-b-init c =
+    let same : c.into_iter-b-iterator.result.iter.rest.now ≡ c.args.text.now = search rules in
+    rw same (parsing_starts c.args.text.now)
 
 pub returns-then-not-symbol_byte : goal.returns-then-not-symbol_byte
 unfolding parses parsed
 returns-then-not-symbol_byte c =
     let t = c.args.text.now in
-    let i = c.loop-i.i in
-    let r = c.symbol_byte in
-    let h : i - 1 < length t = omega arith in
-    rw (all_fails symbol_byte (i - 1) t h (sym r.ensures ∙ c.if-not-symbol_byte.true), and_false (leb 1 (length t) && leb (length t) 8))
+    let n = length t in
+    let steps = c.in-Some.ensures.steps in
+    let fails = parsing_fails t _ _ _ _ steps c.loop-b.invariant (sym c.symbol_byte.ensures ∙ c.if-not-symbol_byte.true) in
+    rw (fails, and_false (leb 1 n && leb n 8))
 
 pub overflow_mul-word : goal.overflow_mul-word
-overflow_mul-word c = omega (arith, small c.loop-i.i c.loop-i.word c.args.text.now (bytes_of_lem c.args.text.now c.type_inv.text) c.loop-i-test.true (omega arith) c.loop-i.invariant.1)
+overflow_mul-word c =
+    let t = c.args.text.now in
+    let small = parsing_small t _ _ _ _ c.in-Some.ensures.steps c.loop-b.invariant (bytes_of_lem t c.type_inv.text) (omega arith) in
+    omega (arith, small)
 
 pub overflow_add-word : goal.overflow_add-word
-overflow_add-word c = omega (arith, small c.loop-i.i c.loop-i.word c.args.text.now (bytes_of_lem c.args.text.now c.type_inv.text) c.loop-i-test.true (omega arith) c.loop-i.invariant.1, c.type_inv.text (c.loop-i.i - 1))
-
-pub loop-i-preserved : goal.loop-i-preserved
-loop-i-preserved c =
+overflow_add-word c =
     let t = c.args.text.now in
-    let l = c.loop-i in
-    let r = c.symbol_byte in
-    let p = c.loop-i-test.true in (
-      omega arith,
-      rw l.invariant.1 (sym (word_step 7 l.i t p l.invariant.0 (omega arith))),
-      all_goes symbol_byte l.i t p l.invariant.0 (sym r.ensures ∙ c.if-not-symbol_byte.false) ∙ l.invariant.2,
-    )
+    let small = parsing_small t _ _ _ _ c.in-Some.ensures.steps c.loop-b.invariant (bytes_of_lem t c.type_inv.text) (omega arith) in
+    omega (arith, small)
+
+pub loop-b-preserved : goal.loop-b-preserved
+loop-b-preserved c =
+    let t = c.args.text.now in
+    let e : c.from.result ≡ c.in-Some.field-0.now = search rules in
+    rw e (parsing_goes t _ _ _ _ c.in-Some.ensures.steps c.loop-b.invariant (sym c.symbol_byte.ensures ∙ c.if-not-symbol_byte.false) (omega arith))
 
 pub returns : goal.returns
 unfolding parses parsed
 returns c =
     let t = c.args.text.now in
-    let l = c.loop-i in
-    let z : l.i ≡ 0 = omega arith in
-    let e : all_of symbol_byte t ≡ true = ap (λ (i : ℕ). all_of symbol_byte (drop i t)) (sym z) ∙ l.invariant.2 in
-    let w : l.word ≡ le 8 t = l.invariant.1 ∙ ap (λ (i : ℕ). le 8 (drop i t)) z in
-    rw (e, le-leb 1 (length t) c.if-n-lt1.false, le-leb (length t) 8 c.if-n-gt8.false, w)
+    let n = length t in
+    let ends = parsing_ends t _ _ c.in-None.ensures.steps.0 c.loop-b.invariant in
+    let some : 1 ≤ n = grind (arith, c.is_empty.ensures, c.if-is_empty.false) in
+    rw (ends.1, le-leb 1 n some, le-leb n 8 c.if-text-gt8.false, ends.0)

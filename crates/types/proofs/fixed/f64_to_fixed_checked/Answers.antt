@@ -5,11 +5,12 @@ use lib.Ieee.{Float, binary64, of_bits, mul}
 use lib.Ieee.Bits.{of_bits-to_bits}
 use lib.Ieee.Fits.{mul-fits}
 use Rattle.types.specs.Fixed.{round_away, in_range, if_finite, to_fixed}
-use Rattle.types.specs.declared.fixed.Fixed.{Fixed}
 use Rattle.types.proofs.fixed.f64_to_fixed_checked.Goals as goal
+use Rattle.std.specs.Prelude.{Result, ℤ}
+use Rattle.wire.specs.declared.refusal.Refusal.{Refusal}
 
 -- the steps after the multiplication
-abbrev steps : Float → Fixed
+abbrev steps : Float → Result ℤ Refusal
 steps x = in_range (round_away binary64 x)
 
 pub returns-then-is_finite : goal.returns-then-is_finite

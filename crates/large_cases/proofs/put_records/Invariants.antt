@@ -1,9 +1,0 @@
--- `large_cases::put_records`: the place and the records left add up, so the place fits.
-use Rattle.std.proofs.Common.{◌≡◌, ◌+◌, ◌*◌, length}
-use Rattle.large_cases.proofs.put_records.Given as goal
-
-abbrev pub invariant-loop-left : goal.invariant-loop-left
-invariant-loop-left l = (length l.d ≡ length l.initial.d) × (l.i + 64 * l.left ≡ l.fn.at + 64 * l.fn.n)
-
-abbrev pub decreases-loop-left : goal.decreases-loop-left
-decreases-loop-left l = l.left

@@ -270,22 +270,22 @@ int32_t desk_truncated_i32(int64_t n);
  * The figure for each call:
  * desk_check_book                          128
  * desk_check_sheet                         128
- * desk_reply                           206,528
+ * desk_reply                           206,464
  * desk_validate_checkpoints                320
- * desk_max_checkpoint_sequence             192
+ * desk_max_checkpoint_sequence             256
  * desk_check_window_already_complete       256
- * desk_reconstruct_state                 2,304
+ * desk_reconstruct_state                 2,240
  * desk_step                              1,600
  * desk_recovery_action                     576
- * desk_states_equal                      1,984
- * desk_compare_broker_state                512
- * desk_reconcile_incomplete_intents      1,024
- * desk_join                                640
- * desk_round                             2,624
- * desk_reconcile                        67,136
+ * desk_states_equal                      1,792
+ * desk_compare_broker_state                448
+ * desk_reconcile_incomplete_intents        960
+ * desk_join                                576
+ * desk_round                             2,176
+ * desk_reconcile                        67,008
  * desk_held_value                       34,176
- * desk_f64_to_fixed_checked                 64
- * desk_f64_cents_checked                    64
+ * desk_f64_to_fixed_checked                128
+ * desk_f64_cents_checked                   128
  * desk_f64_bits                             64
  * desk_is_finite                            64
  * desk_saturating_i64                       64
@@ -295,7 +295,7 @@ int32_t desk_truncated_i32(int64_t n);
  * desk_sign_extended                        64
  * desk_truncated_i32                        64
  */
-enum { DESK_STACK = 206528 };
+enum { DESK_STACK = 206464 };
 
 #ifdef __cplusplus
 }

@@ -6,7 +6,7 @@
 // buffer are those of its file, so many as are counted, and that the first bytes of `out` are written, is read in the lines below and run by `desk_cases`.
 #![tactic(auto)]
 
-ghost use Rattle.std.specs.Prelude.{◌≡◌, length};
+ghost use Rattle.std.specs.Prelude.{◌≡◌, ◌≤◌, length};
 ghost use Rattle.wire.specs.Table.{padded};
 ghost use Rattle.desk_files.specs.Printed.{printed};
 
@@ -36,7 +36,9 @@ fn fail(rt: &impl Eprint, what: &str, error: &io::Error) {
 
 // Reads a file from its start into `buf`, as much as there is room for, and returns how many bytes came. Where reading fails it says so on standard error, and
 // what came before is kept, so this is a loop: `read_exact` does not say how much that is.
-fn read_file(rt: &impl Eprint, file: &mut impl Read, path: &str, buf: &mut [u8]) -> usize {
+fn read_file(rt: &impl Eprint, file: &mut impl Read, path: &str, buf: &mut [u8]) -> usize
+    ensures { result ≤ length buf.new }
+{
     let mut n = 0;
     while n < buf.len() {
         match file.read(&mut buf[n..]) {

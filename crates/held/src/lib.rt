@@ -4,7 +4,8 @@
 // total outside i64 (12).
 #![tactic(auto)]
 
-ghost use Rattle.std.specs.Prelude.{◌≡◌, [], map, ◌≤◌, length};
+ghost use Rattle.std.specs.Prelude.{◌≡◌, [], map, ◌≤◌, cond, length};
+ghost use Rattle.drift.specs.Entry.{fits64};
 ghost use Rattle.drift.specs.Rows.{held_in, targets_in, prices_in};
 ghost use Rattle.drift.specs.Report.{lines_of};
 ghost use Rattle.held.specs.Value.{worth, worth_of, value_of, held_of};
@@ -25,6 +26,13 @@ fn worth_of(quantity: i64, price: i64) -> Option<i64>
     }
 }
 
+// A total, unless it is outside i64.
+fn total_of(sum: i128) -> Result<i64, Refusal>
+    ensures { result ≡ cond (fits64 sum) (Ok sum) (Err Refusal.Overflow) }
+{
+    i64::try_from(sum).map_err(|_| Refusal::Overflow)
+}
+
 // The total of the lines in the arrays. It is summed in 128 bits, so that only the total is held to i64. Two arrays, since
 // those are what a drift table has.
 fn sum_worth(quantities: &[u64], costs: &[u64]) -> Result<i64, Refusal>
@@ -37,7 +45,7 @@ fn sum_worth(quantities: &[u64], costs: &[u64]) -> Result<i64, Refusal>
         let worth = worth_of(quantities[k].cast_signed(), costs[k].cast_signed());
         sum += i128::from(worth.ok_or(Refusal::Overflow)?);
     }
-    i64::try_from(sum).map_err(|_| Refusal::Overflow)
+    total_of(sum)
 }
 
 // The value of lists, by a table with no symbol yet.

@@ -1,25 +1,25 @@
 -- The answers of state equality and of the comparison, with lent marks. Definitions only.
 use Rattle.std.specs.Prelude.{ℕ, List, replicate}
-use Rattle.wire.specs.Layout.{refusal_number, both_of}
+use Rattle.wire.specs.Layout.{both_of}
 use Rattle.marks_record.specs.MarksRecord.{truth_number, marks_of, marks_layout}
 use Rattle.book.specs.Layout.{book_layout}
 use Rattle.sheet.specs.Sheet.{sheet_layout}
-use Rattle.state.specs.State.{states_equal}
+use Rattle.state.specs.State.{states_equal, equality_number}
 use Rattle.compare.specs.declared.Compared.{Compared}
-use Rattle.compare.specs.Compare.{comparison, report_out}
+use Rattle.compare.specs.Compare.{comparison, comparison_number, report_out}
 use Rattle.marks_answers.specs.LentMarks.{marks_first, marks_else}
 use Rattle.std.specs.Prelude.{Ok, Err, Result, Bool}
 use Rattle.wire.specs.declared.refusal.Refusal.{Refusal}
 
 -- ---- the refusal, and two numbers
 abbrev pub equality_numbers : Result Bool Refusal → ℕ × ℕ × ℕ
-equality_numbers (Ok b) = (0, truth_number b, 0)
-equality_numbers (Err q) = (refusal_number q, 0, 0)
+equality_numbers (Ok b) = (equality_number (Ok b), truth_number b, 0)
+equality_numbers (Err q) = (equality_number (Err q), 0, 0)
 
 -- how many discrepancies, and whether that is critical
 abbrev pub comparison_numbers : Result Compared Refusal → ℕ × ℕ × ℕ
-comparison_numbers (Ok r) = (0, r.count, truth_number r.critical)
-comparison_numbers (Err q) = (refusal_number q, 0, 0)
+comparison_numbers (Ok r) = (comparison_number (Ok r), r.count, truth_number r.critical)
+comparison_numbers (Err q) = (comparison_number (Err q), 0, 0)
 
 -- ---- with lent marks
 abbrev pub lent_equality_numbers : List ℕ → List ℕ → List ℕ → List ℕ → List ℕ → List ℕ → List ℕ → List ℕ → ℕ × ℕ × ℕ

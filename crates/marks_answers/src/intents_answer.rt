@@ -1,7 +1,7 @@
 // The answers of `intents`, to lent marks.
 ghost use Rattle.std.specs.Prelude.{◌≡◌, length, replicate};
 ghost use Rattle.std.proofs.lemmas.List.Edits.{sets};
-ghost use Rattle.wire.specs.Layout.{refused};
+ghost use Rattle.intents.specs.Intents.{reconciling_number};
 ghost use Rattle.answers.specs.Answer.{room_number, unless_short};
 ghost use Rattle.marks_answers.specs.IntentsAnswer.{reconciled_bytes, reconciling_bytes, lent_reconciling, lent_addendum_out};
 
@@ -21,7 +21,7 @@ fn put_reconciled(d: &mut [u8], r: Reconciled)
 // one function for both would take the writer and what it promises as parameters.
 fn put_reconciling(answer: &mut [u8], r: Result<Reconciled, Refusal>) -> u32
     requires { answer.old ≡ replicate (length answer.old) 0 }
-    ensures { (result ≡ refused r) × (answer.new ≡ reconciling_bytes r (length answer.old)) }
+    ensures { (result ≡ reconciling_number r) × (answer.new ≡ reconciling_bytes r (length answer.old)) }
 {
     match r {
         Ok(x) => {
@@ -34,7 +34,7 @@ fn put_reconciling(answer: &mut [u8], r: Result<Reconciled, Refusal>) -> u32
 
 // Writes a reconciling's answer of 24 bytes and returns its number.
 pub fn give_reconciling(r: Result<Reconciled, Refusal>, answer: &mut [u8]) -> u32
-    ensures { (result ≡ room_number 24 (refused r) (length answer.old)) × (answer.new ≡ unless_short 24 (length answer.old) (length answer.old) (reconciling_bytes r (length answer.old))) }
+    ensures { (result ≡ room_number 24 (reconciling_number r) (length answer.old)) × (answer.new ≡ unless_short 24 (length answer.old) (length answer.old) (reconciling_bytes r (length answer.old))) }
 {
     wire::clear(answer);
     let number = put_reconciling(answer, r);

@@ -9,7 +9,7 @@ use Rattle.marks.specs.Action.{lent_action}
 use Rattle.marks.specs.declared.action.RecoveryAction.{RecoveryAction}
 use Rattle.marks.specs.declared.action.RecoveryAction.TheVariants.{Restart, Resume, ManualReview}
 use Rattle.recovery.specs.declared.recover.Recovered.{Recovered}
-use Rattle.reader.specs.Reader.{stepped, marks_after}
+use Rattle.reader.specs.Reader.{stepped, stepped_number, marks_after}
 use Rattle.marks_answers.specs.LentMarks.{marks_first, marks_else}
 use Rattle.std.specs.Prelude.{Ok, Err, Result}
 use Rattle.wire.specs.Layout.{refusal_number}
@@ -37,8 +37,8 @@ action_numbers (Err q) = (refusal_number q, 0, 0)
 
 -- 1 where an event was stepped
 abbrev pub step_numbers : Result Bool Refusal → ℕ × ℕ × ℕ
-step_numbers (Ok stepped) = (0, from_bool stepped, 0)
-step_numbers (Err q) = (refusal_number q, 0, 0)
+step_numbers (Ok stepped) = (stepped_number (Ok stepped), from_bool stepped, 0)
+step_numbers (Err q) = (stepped_number (Err q), 0, 0)
 
 -- ---- with lent marks
 abbrev pub lent_action_numbers : List ℕ → List ℕ → ℕ × ℕ × ℕ

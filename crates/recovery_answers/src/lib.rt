@@ -3,7 +3,7 @@
 
 ghost use Rattle.std.specs.Prelude.{◌≡◌, length, replicate};
 ghost use Rattle.std.proofs.lemmas.List.Edits.{sets};
-ghost use Rattle.wire.specs.Layout.{refused};
+ghost use Rattle.recovery.specs.Recover.{recovery_number};
 ghost use Rattle.answers.specs.Answer.{numbers, room_number, unless_short};
 ghost use Rattle.recovery_answers.specs.RecoveryAnswer.{action_code, recovered_bytes, recovery_bytes, action_numbers, step_numbers, lent_action_numbers, lent_step_numbers, kept_if_short, record_if, record_after};
 
@@ -38,7 +38,7 @@ fn put_recovered(d: &mut [u8], r: Recovered)
 // one function for both would take the writer and what it promises as parameters.
 fn put_recovery(answer: &mut [u8], r: Result<Recovered, Refusal>) -> u32
     requires { answer.old ≡ replicate (length answer.old) 0 }
-    ensures { (result ≡ refused r) × (answer.new ≡ recovery_bytes r (length answer.old)) }
+    ensures { (result ≡ recovery_number r) × (answer.new ≡ recovery_bytes r (length answer.old)) }
 {
     match r {
         Ok(x) => {
@@ -51,7 +51,7 @@ fn put_recovery(answer: &mut [u8], r: Result<Recovered, Refusal>) -> u32
 
 // Writes a recovery's answer of 200 bytes and returns its number.
 pub fn give_recovery(r: Result<Recovered, Refusal>, answer: &mut [u8]) -> u32
-    ensures { (result ≡ room_number 200 (refused r) (length answer.old)) × (answer.new ≡ unless_short 200 (length answer.old) (length answer.old) (recovery_bytes r (length answer.old))) }
+    ensures { (result ≡ room_number 200 (recovery_number r) (length answer.old)) × (answer.new ≡ unless_short 200 (length answer.old) (length answer.old) (recovery_bytes r (length answer.old))) }
 {
     wire::clear(answer);
     let number = put_recovery(answer, r);

@@ -24,8 +24,8 @@ use Rattle.marks.specs.Marks.{first_marks}
 use Rattle.marks.specs.declared.Marks.{Marks}
 use Rattle.effects.specs.Event.{Event, events_of}
 use Rattle.recovery.specs.Recover.{recovery, orders_out, recovery_number}
-use Rattle.intents.specs.Intents.{reconciling, addendum_out}
-use Rattle.compare.specs.Compare.{comparison, report_out}
+use Rattle.intents.specs.Intents.{reconciling, addendum_out, reconciling_number}
+use Rattle.compare.specs.Compare.{comparison, report_out, comparison_number}
 use Rattle.std.specs.Prelude.{Some, None, Ok, Err, Result}
 use Rattle.wire.specs.declared.refusal.Refusal.{Refusal}
 use Rattle.wire.specs.Layout.{refused}
@@ -115,7 +115,7 @@ counts (Err e) = []
 
 unfoldable pub reconciled : Marks → List ℕ → List ℕ → List ℕ → List ℤ
 reconciled m orders sheet queries =
-    (pos (refused (reconciling m orders sheet queries (pos 9) 1024)) ∷ counts (reconciling m orders sheet queries (pos 9) 1024))
+    (pos (reconciling_number (reconciling m orders sheet queries (pos 9) 1024)) ∷ counts (reconciling m orders sheet queries (pos 9) 1024))
     ++ flat_map entry_of (events_of (addendum_out m orders sheet queries (pos 9) 1024))
 
 -- a log whose last number is 6, with intents of AB and CD
@@ -138,7 +138,7 @@ count_of (Err e) = 0
 
 unfoldable pub compared : List ℕ → List ℕ → List ℤ
 compared positions sheet =
-    pos (refused (comparison (first_marks (pos 0)) [] positions sheet 48)) ∷ pos (count_of (comparison (first_marks (pos 0)) [] positions sheet 48))
+    pos (comparison_number (comparison (first_marks (pos 0)) [] positions sheet 48)) ∷ pos (count_of (comparison (first_marks (pos 0)) [] positions sheet 48))
     ∷ pos (le 4 (report_out (first_marks (pos 0)) [] positions sheet 48))
     ∷ []
 

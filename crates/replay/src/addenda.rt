@@ -13,9 +13,9 @@ pub fn join(a: &[u8], b: &[u8], k: u64, out: &mut [u8]) -> Numbers {
     round_answers::joining_numbers(join::join(a, b, k, out))
 }
 
-// The refusal of the join with so many bytes lent. It calls the function above: the room alone is another.
-pub fn lent_joining(a: &[u8], b: &[u8], k: u64, bytes: u64) -> u32 {
-    let mut out = [0; 65536];
+// The refusal of the join with so many bytes of a buffer lent. It calls the function above: the room alone is another. The buffer is the one that the join itself is
+// given next, so it is made zero once.
+pub fn lent_joining(a: &[u8], b: &[u8], k: u64, bytes: u64, out: &mut [u8]) -> u32 {
     let n = out.len().min(bytes as usize);
     join(a, b, k, &mut out[..n]).refusal
 }
@@ -51,8 +51,8 @@ fn joined<R: Print>(case: &mut Case<'_, R>, s: &State, addendum: &[u8]) -> io::R
     let mut out = [0; 65536];
     let book = case.section(1);
     let k = case.number_in(5, 2);
+    let lent = lent_joining(book, addendum, k, case.number_in(5, 7), &mut out);
     let n = join(book, addendum, k, &mut out);
-    let lent = lent_joining(book, addendum, k, case.number_in(5, 7));
     case.numbers(Sort::Joins, 18, &[n.refusal.into(), lent.into(), n.a])?;
     if n.refusal == 0 {
         recovered(case, s, wire::part(&out, 0, n.a as usize))?;

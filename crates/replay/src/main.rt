@@ -28,20 +28,32 @@ fn by_kind<R: Print>(kind: u32, case: &mut Case<'_, R>) -> io::Result<()> {
     }
 }
 
-// Reads a case and replays it; false where the list has it not whole, or its body is above 65,536 bytes.
-fn read_case<R: Print>(rt: &R, file: &mut impl Read, tally: &mut Tally) -> io::Result<bool> {
-    let Some(head) = cases::next::<8, _>(file)? else {
-        return Ok(false);
-    };
-    let len = wire::u32_at(&head, 4) as usize;
+// Reads a body of so many bytes and replays it; false where the list has it not whole, or it is above 65,536 bytes. A function of its own: where the buffer stands
+// after an early return it is made zero twice.
+fn read_body<R: Print>(
+    rt: &R,
+    file: &mut impl Read,
+    tally: &mut Tally,
+    kind: u32,
+    len: usize,
+) -> io::Result<bool> {
     let mut bytes = [0; 65536];
     let n = bytes.len().min(len);
     let body = &mut bytes[..n];
     if cases::read_full(file, body)? != len {
         return Ok(false);
     }
-    by_kind(wire::u32_of(&head), &mut Case::new(rt, tally, body))?;
+    by_kind(kind, &mut Case::new(rt, tally, body))?;
     Ok(true)
+}
+
+// Reads a case and replays it.
+fn read_case<R: Print>(rt: &R, file: &mut impl Read, tally: &mut Tally) -> io::Result<bool> {
+    let Some(head) = cases::next::<8, _>(file)? else {
+        return Ok(false);
+    };
+    let len = wire::u32_at(&head, 4) as usize;
+    read_body(rt, file, tally, wire::u32_of(&head), len)
 }
 
 // Replays a whole list of format 1; false where it is none, breaks off, or has bytes after its last case.

@@ -1,3 +1,4 @@
 pub mod Answers
 pub mod RoundOut
 pub mod CallOrder
+pub mod Numbers

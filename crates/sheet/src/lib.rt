@@ -1,7 +1,7 @@
 // The broker's sheet in lent bytes: its test for refusals 1 and 2, and readers of its header, orders and positions.
 //
 // Nothing here has a `requires`: a reader takes any bytes, and reads zeros past their end. What it reads stands for the broker's answer
-// where `check` answers `Sound`. The contracts cite `specs/Sheet.antt`.
+// where `check` answers `Ok(())`. The contracts cite `specs/Sheet.antt`.
 #![tactic(auto)]
 
 ghost use Rattle.std.specs.Prelude.{◌≡◌, Ok, Err, MatchResult, ◌+◌, ◌*◌, drop};

@@ -2,7 +2,7 @@
 -- Assumes nothing.
 use Prim.Native.Nat.{ℕ}
 use mathlib.Core.Path.{◌≡◌, refl}
-use mathlib.Core.List.{List, [], ◌∷◌, ◌++◌}
+use mathlib.Core.List.{List, [], ◌∷◌, ◌++◌, map}
 use mathlib.Core.Bool.{true, false}
 use lib.IntN.{pos}
 use lib.ListN.{replicate}
@@ -15,10 +15,11 @@ use Rattle.records.specs.Record.{order_bytes, order_of, position_of, order_ok, t
 use Rattle.records.specs.declared.order.Order.{Order}
 use Rattle.marks.specs.Marks.{first_marks, no_pair}
 use Rattle.marks.specs.declared.Marks.{Marks}
-use Rattle.state.specs.State.{same_pair, same_marks, same_texts, same_order, same_position, same_lists, same_state, refs_ok, state_layout, states_equal}
+use Rattle.state.specs.State.{same_pair, same_marks, same_texts, same_order, same_position, same_lists, same_state, refs_ok, state_layout, states_equal, equality_number}
 use Rattle.cell.specs.declared.TextRef.{TextRef}
 use Rattle.std.specs.Prelude.{Some, None, Ok, Err, Option, Result, Bool}
 use Rattle.wire.specs.declared.refusal.Refusal.{Refusal}
+use Rattle.wire.specs.declared.refusal.Refusal.TheVariants as Refusal
 
 -- a book without events or rows, with the text `xyx`
 small : List ℕ
@@ -84,3 +85,7 @@ none_is_not_zero = refl
 many_events : states_equal [] (first_marks (pos 0)) [] [] (bytes_of 4 4097 ++ replicate 20 0) (first_marks (pos 0)) [] [] ≡ (Err Refusal.Oversize)
 unfolding states_equal state_layout book_layout parts_ok tables_ok offsets_ok every table_ok refs_ok bytes_of le order_of position_of records same_state same_marks same_pair same_lists same_order same_position
 many_events = refl
+
+-- the numbers of the answers, by document 01's table of refusals
+pub numbers_due : map equality_number (Ok true ∷ Ok false ∷ Err Refusal.Oversize ∷ Err Refusal.Broken ∷ []) ≡ 0 ∷ 0 ∷ 1 ∷ 2 ∷ []
+numbers_due = refl

@@ -8,7 +8,6 @@
 #![tactic(auto)]
 
 use marks::Marks;
-use reader::Reader;
 use recovery::recover;
 use recovery::recover::Recovered;
 use std::io;
@@ -26,21 +25,21 @@ struct Walked {
 // ---- the walk
 // Steps from the first event on, until a step finds no event left or is refused, and `most` at the most.
 fn walk(book: &[u8], first: Marks, most: u32) -> Walked {
-    let mut marks = first;
-    let mut reader = Reader::new(book);
-    let mut answer = Ok(true);
+    let mut walked = Walked {
+        marks: first,
+        answer: Ok(true),
+        next: 0,
+    };
     for _ in 0..most {
-        answer = reader.step(&mut marks);
-        if answer != Ok(true) {
+        let on = reader::step_on(book, walked.next, walked.marks);
+        walked.marks = on.marks;
+        walked.answer = on.answer;
+        if on.answer != Ok(true) {
             break;
         }
-        reader = reader.moved();
+        walked.next = on.next;
     }
-    Walked {
-        marks,
-        answer,
-        next: reader.next,
-    }
+    walked
 }
 
 // ---- what is told of it

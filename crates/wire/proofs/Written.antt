@@ -22,11 +22,16 @@ pub sets_past : (l : List ℕ) (i : ℕ) (vs : List ℕ) → length l ≤ i → 
 sets_past l i [] h = refl
 sets_past l i (v ∷ vs) h = rw (set_out l i v h) (sets_past l (suc i) vs (omega arith))
 
--- n bytes, where some are left
+-- n bytes, where some are left and where none is
 pub bytes_of_less : (n x : ℕ) → 0 < n → bytes_of n x ≡ x % 256 ∷ bytes_of (n - 1) (x / 256)
 unfolding bytes_of
 bytes_of_less zero x h = absurd (not-suc-le-zero h)
 bytes_of_less (suc n) x h = let e : suc n - 1 ≡ n = omega arith in rw e
+
+pub bytes_of_none : (n x : ℕ) → n ≤ 0 → bytes_of n x ≡ []
+unfolding bytes_of
+bytes_of_none zero x h = refl
+bytes_of_none (suc n) x h = absurd (not-suc-le-zero h)
 
 -- one turn of the loop that writes a number, and its end: none is left, or the rest has no room
 pub put_step : (d : List ℕ) (i n x : ℕ) → 0 < n → sets d i (bytes_of n x) ≡ sets (set d i (x % 256)) (i + 1) (bytes_of (n - 1) (x / 256))

@@ -19,7 +19,7 @@ use Rattle.drift.proofs.Integers.{fits_of}
 use Rattle.drift.proofs.Answers.{value_if, value_ok, value_err, whole_or}
 use Rattle.drift.proofs.Runs.{left, left_all}
 use Rattle.held.specs.Value.{worth, total}
-use Rattle.held.proofs.Sums.{sum_fits, low_next, high_next, sum_next, zero_sum, sum_zero, checked}
+use Rattle.held.proofs.Sums.{sum_fits, low_next, high_next, sum_next, zero_sum, sum_zero}
 use Rattle.held.proofs.Worths.{total_next, total_end, fits_next, fits_stop, fits_end}
 use Rattle.held.proofs.Valued.{value_product, value_all}
 use Rattle.held.proofs.sum_worth.Goals.{After-ok_or, After-from}
@@ -94,5 +94,5 @@ returns c =
     let f = line_at [] a.quantities.now [] a.costs.now in
     let zs = map worth (lines_at [] a.quantities.now [] a.costs.now n) in
     let s : to_z w128 l.sum-bits ≡ total zs = sym (sum_zero (to_z w128 l.sum-bits)) ∙ ap (λ (t : ℤ). to_z w128 l.sum-bits +ℤ t) (sym (total_end f n l.k h)) ∙ l.invariant.1 in
-    checked c.try_from.result c.map_err.result (to_z w128 l.sum-bits) c.try_from.ensures c.map_err.ensures.cases (λ e d k. search rules)
+    c.total_of.ensures
     ∙ ap (λ (z : ℤ). value_if (fits64 z) z) s ∙ value_all zs (l.invariant.0 ∙ fits_end f n l.k h)

@@ -1,16 +1,17 @@
 -- A sum of i64s in 128 bits: what one more does to it and to its bounds.
 -- Assumes nothing.
-use Prim.Native.Nat.{ℕ, ◌+◌, ◌*◌, ◌^◌, ◌<◌}
+use Prim.Native.Nat.{ℕ, suc, ◌+◌, ◌-◌, ◌*◌, ◌^◌, ◌<◌}
 use mathlib.Core.Path.{◌≡◌, refl, ap, ◌∙◌}
-use mathlib.Core.Bool.{Bool, true, false}
-use borrow.Author.Tests.{lt-ltb}
+use mathlib.Core.Bool.{Bool, true, false, cond}
+use lib.Dec.{ltb}
+use borrow.Author.Tests.{ltb-true, ltb-false, lt-ltb, le-ltb}
 use Rattle.std.specs.Prelude.{Result, Ok, Err, OkIff, IsErrAnd, MatchResult}
 use Rattle.wire.specs.declared.refusal.Refusal.{Refusal}
 use Rattle.drift.specs.Entry.{fits64}
 use Rattle.drift.proofs.Integers.{fits_of}
 use Rattle.drift.proofs.Answers.{value_if}
 use native.Mathlib.Omega.{arith}
-use lib.IntN.{ℤ, pos, neg_ℤ, ◌+ℤ◌}
+use lib.IntN.{ℤ, pos, negsuc, neg_ℤ, sub_ℕ, ◌+ℤ◌}
 use lib.Signed.{mag, ◌≤ℤ◌}
 use mir.Syntax.{w64, w128}
 use mir.Val.{SFits}
@@ -34,6 +35,20 @@ zero_sum t = omega (arith, ints)
 
 pub sum_zero : (s : ℤ) → s +ℤ pos 0 ≡ s
 sum_zero s = omega (arith, ints)
+
+-- differences of naturals: the same where they are as far apart
+pub sub_same : (a b c d : ℕ) → a + d ≡ c + b → sub_ℕ a b ≡ sub_ℕ c d
+sub_same a b c d e = by (ltb a b) refl
+  where
+    by : (v : Bool) → ltb a b ≡ v → cond v (negsuc (b - suc a)) (pos (a - b)) ≡ sub_ℕ c d
+    by true q =
+        let h = ltb-true a b q in
+        let k : b - suc a ≡ d - suc c = omega arith in
+        rw (lt-ltb c d (omega arith)) (ap negsuc k)
+    by false q =
+        let h = ltb-false a b q in
+        let k : a - b ≡ c - d = omega arith in
+        rw (le-ltb c d (omega arith)) (ap pos k)
 
 -- a sum in 128 bits that has to be an i64
 module _ {E : Type 0} {Q : E → Refusal → Type 0} where
